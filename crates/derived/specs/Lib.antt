@@ -1,0 +1,4 @@
+pub mod Bytes
+pub mod Scopes
+pub mod Ancestors
+pub mod Answer

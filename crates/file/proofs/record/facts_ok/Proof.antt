@@ -1,0 +1,46 @@
+use mathlib.Core.Path.{sym, _∙_}
+use Rattle.file.specs.Facts.{facts-over, facts-literal, facts-other, facts-pairs}
+use borrow.Author.Needs.{needs}
+use Rattle.file.proofs.record.facts_ok.Statement.{statement}
+use Rattle.file.proofs.record.facts_ok.Tie as tie
+
+kind-at-requires : tie.Need-kind-at-requires
+kind-at-requires c κs = search needs
+
+facts-at-requires : tie.Need-facts-at-requires
+facts-at-requires c κs = search needs
+
+allowed-facts-requires : tie.Need-allowed-facts-requires
+allowed-facts-requires c κs = search needs
+
+cast-if1 : tie.Need-cast-if1
+cast-if1 c = search needs
+
+returns : tie.Need-returns
+returns c = sym (facts-over _ _ _ _ (c .before .before .before .kind-at .ensures .0) (c .before .before .facts-at .ensures .0) (c .before .before .facts-at .ensures .1) (c .before .allowed-facts .ensures) (c .if1 .taken))
+
+pairs-ok-requires : tie.Need-pairs-ok-requires
+pairs-ok-requires c κs = search needs
+
+returns-2 : tie.Need-returns-2
+returns-2 c = sym (facts-literal _ _ _ _ (c .before .before .before .before .before .before .kind-at .ensures .0) (c .before .before .before .before .before .facts-at .ensures .0) (c .before .before .before .before .before .facts-at .ensures .1) (c .before .before .before .before .allowed-facts .ensures) (c .before .before .before .if1 .left) (sym (c .before .before .pairs-ok .ensures) ∙ c .before .if2 .taken) (c .if3 .taken))
+
+returns-3 : tie.Need-returns-3
+returns-3 c = sym (facts-other _ _ _ _ (c .before .before .before .before .before .before .kind-at .ensures .0) (c .before .before .before .before .before .facts-at .ensures .0) (c .before .before .before .before .before .facts-at .ensures .1) (c .before .before .before .before .allowed-facts .ensures) (c .before .before .before .if1 .left) (sym (c .before .before .pairs-ok .ensures) ∙ c .before .if2 .taken) (c .if3 .left))
+
+returns-4 : tie.Need-returns-4
+returns-4 c = sym (facts-pairs _ _ _ _ (c .before .before .before .before .before .kind-at .ensures .0) (c .before .before .before .before .facts-at .ensures .0) (c .before .before .before .before .facts-at .ensures .1) (c .before .before .before .allowed-facts .ensures) (c .before .before .if1 .left) (sym (c .before .pairs-ok .ensures) ∙ c .if2 .left))
+
+pub facts-ok-spec : {M : Type 1} → statement M
+facts-ok-spec =
+    tie.close
+    (tie.spec
+    kind-at-requires
+    facts-at-requires
+    allowed-facts-requires
+    cast-if1
+    returns
+    pairs-ok-requires
+    returns-2
+    returns-3
+    returns-4)

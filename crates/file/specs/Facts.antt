@@ -1,0 +1,60 @@
+-- Each permitted set of fact bits is one less than a power of two, so a byte has no other bit exactly if it is at most that number.
+use mathlib.Core.Path.{_≡_, refl, sym}
+use mathlib.Core.Bool.{Bool, true, false, cond, not, _||_}
+use Prim.Native.Nat.{ℕ, _<_, _≤_}
+use lib.Dec.{eqb, leb}
+use borrow.Author.Tests.{le-leb, lt-leb, ne-eqb}
+use Rattle.tree.specs.Tree.{Head}
+use Rattle.tree.specs.Below.{allBelow, all-at}
+use Rattle.tree.specs.Record.{allowedFacts, bitsWithin, pairsOk, literalOk, factsOk}
+use Rattle.tree.specs.Kind as kind
+
+abbrev agree : Bool → Bool → Bool
+agree a b = cond a b (not b)
+
+agree-same : (a b : Bool) → agree a b ≡ true → a ≡ b
+agree-same true b e = sym e
+agree-same false true e = e
+agree-same false false e = refl
+
+-- At a set of bits for which the test over all bytes computes to true.
+within-at : (m : ℕ) → allBelow (λ f. agree (bitsWithin m f) (leb f m)) 256 ≡ true → (f : ℕ) → f < 256 → bitsWithin m f ≡ leb f m
+within-at m e f l = agree-same (bitsWithin m f) (leb f m) (all-at (λ x. agree (bitsWithin m x) (leb x m)) 256 e f l)
+
+by-cond : (P : ℕ → Type 0) (b : Bool) (x y : ℕ) → P x → P y → P (cond b x y)
+by-cond P true x y p q = p
+by-cond P false x y p q = q
+
+pub within-leb : (k f : ℕ) → f < 256 → bitsWithin (allowedFacts k) f ≡ leb f (allowedFacts k)
+unfolding allowedFacts bitsWithin allBelow
+within-leb k =
+    by-cond Law (eqb k kind.elision || (eqb k kind.property || eqb k kind.element)) 0 (cond (eqb k kind.spread) 1 (cond (eqb k kind.call) 255 (cond (eqb k kind.new) 127 31))) (within-at 0 refl)
+    (by-cond Law (eqb k kind.spread) 1 (cond (eqb k kind.call) 255 (cond (eqb k kind.new) 127 31)) (within-at 1 refl)
+    (by-cond Law (eqb k kind.call) 255 (cond (eqb k kind.new) 127 31) (within-at 255 refl)
+    (by-cond Law (eqb k kind.new) 127 31 (within-at 127 refl) (within-at 31 refl))))
+  where
+    Law : ℕ → Type 0
+    Law m = (f : ℕ) → f < 256 → bitsWithin m f ≡ leb f m
+
+-- The record check's tests of a facts byte, over the values that it read.
+module _ (h : Head) (k f allowed : ℕ) (ek : k ≡ h .kind) (ef : f ≡ h .facts) (l : f < 256) (ea : allowed ≡ allowedFacts k) where
+  within-is : bitsWithin (allowedFacts (h .kind)) (h .facts) ≡ leb f allowed
+  within-is = rw (← ek, ← ef, ea) (within-leb k f l)
+
+  pub facts-over : allowed < f → factsOk h ≡ false
+  unfolding factsOk
+  facts-over o = rw (within-is, lt-leb f allowed o)
+
+  module _ (o : f ≤ allowed) where
+    pub facts-pairs : pairsOk f ≡ false → factsOk h ≡ false
+    unfolding factsOk
+    facts-pairs p = rw (within-is, le-leb f allowed o, ← ef, p)
+
+    module _ (p : pairsOk f ≡ true) where
+      pub facts-literal : k ≡ kind.literal → factsOk h ≡ eqb f 18
+      unfolding factsOk literalOk
+      facts-literal e = rw (within-is, le-leb f allowed o, ← ef, p, ← ek, e)
+
+      pub facts-other : (k ≡ kind.literal → ⊥) → factsOk h ≡ true
+      unfolding factsOk literalOk
+      facts-other e = rw (within-is, le-leb f allowed o, ← ef, p, ← ek, ne-eqb k kind.literal e)

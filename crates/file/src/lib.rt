@@ -1,0 +1,78 @@
+// The check of a tree file: refusals 1 to 8, in order.
+mod children;
+mod depth;
+mod record;
+
+ghost use mathlib.Core.Path.{_≡_};
+ghost use Prim.Native.Nat.{_<_};
+ghost use Rattle.tree.specs.Refusal.{markOk, countOk};
+ghost use Rattle.tree.specs.Fields.{countOf};
+ghost use Rattle.file.specs.Answer.{limitsOf, stated, verdict};
+
+pub enum Checked {
+    // The number of the first refusal that applies.
+    Refused(u8),
+    // No refusal applies: the settings byte and the record count.
+    Accepted { settings: u8, count: usize },
+}
+
+fn mark_ok(src: &[u8]) -> bool
+    ensures { λ r. ⌜ r ≡ markOk (now (src .entry)) ⌝ }
+{
+    if src.len() < 8 {
+        return false;
+    }
+    if src[0] != b'U' {
+        return false;
+    }
+    if src[1] != b'X' {
+        return false;
+    }
+    src[2] == b'T'
+}
+
+fn count_ok(src: &[u8], n: usize, most: usize) -> bool
+    requires { ⌜ (n ≡ countOf (now src)) × (n < 65536) ⌝ }
+    ensures { λ r. ⌜ r ≡ countOk most (now (src .entry)) ⌝ }
+{
+    if n == 0 {
+        return false;
+    }
+    if most < n {
+        return false;
+    }
+    src.len() == 8 + 16 * n
+}
+
+// Whether src is a tree file of at most so many records and levels.
+pub fn check(src: &[u8], records: usize, depth: usize) -> Checked
+    ensures { λ r. ⌜ stated r ≡ verdict (limitsOf records depth) (now (src .entry)) ⌝ }
+{
+    if !mark_ok(src) {
+        return Checked::Refused(1);
+    }
+    if le::get16(src, 3) != 1 {
+        return Checked::Refused(2);
+    }
+    let settings = src[5];
+    if 8 <= settings {
+        return Checked::Refused(3);
+    }
+    let n = le::get16(src, 6);
+    if !count_ok(src, n, records) {
+        return Checked::Refused(4);
+    }
+    if !record::records_ok(src, n) {
+        return Checked::Refused(5);
+    }
+    if !record::all_included(src, n) {
+        return Checked::Refused(6);
+    }
+    if !children::shape_ok(src, n) {
+        return Checked::Refused(7);
+    }
+    if !depth::levels_ok(src, 0, n, depth) {
+        return Checked::Refused(8);
+    }
+    Checked::Accepted { settings, count: n }
+}

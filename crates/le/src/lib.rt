@@ -1,0 +1,19 @@
+// Little-endian fields of a byte slice.
+ghost use mathlib.Core.Path.{_≡_};
+ghost use Prim.Native.Nat.{_+_, _<_};
+ghost use lib.ListN.{length, getD};
+ghost use Rattle.le.specs.Le.{u16At};
+
+pub fn byte(s: &[u8], p: usize) -> usize
+    requires { ⌜ p < length (now s) ⌝ }
+    ensures { λ r. ⌜ (r ≡ getD (now (s .entry)) p 0) × (r < 256) ⌝ }
+{
+    s[p] as usize
+}
+
+pub fn get16(s: &[u8], p: usize) -> usize
+    requires { ⌜ p + 1 < length (now s) ⌝ }
+    ensures { λ r. ⌜ (r ≡ u16At (now (s .entry)) p) × (r < 65536) ⌝ }
+{
+    byte(s, p) + 256 * byte(s, p + 1)
+}

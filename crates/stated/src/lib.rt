@@ -1,0 +1,1 @@
+// What an operation answers, as document 01 says it: the definition is in specs/.

@@ -1,0 +1,310 @@
+-- What is accepted, both ways: an accepted file is the bytes of its tree, which is well-formed and within the limits, and the bytes of
+-- each such tree are an accepted file of that tree. So a reader has to believe only the encoding (`File`).
+use mathlib.Core.Path.{_≡_, refl, sym, ap, ap₂, subst, _∙_}
+use mathlib.Core.Bool.{Bool, true, false, _&&_}
+use mathlib.Core.List.{List, [], _∷_, _++_, append-nil}
+use Prim.Native.Nat.{ℕ, suc, _+_, _*_, _<_, _≤_}
+use native.Mathlib.Omega.{arith}
+use lib.Dec.{eqb, leb}
+use lib.ListN.{length, getD, drop, drop-of-length-le}
+use borrow.Author.Tests.{eqb-true, eq-eqb, leb-true, le-leb, ltb-true, lt-ltb}
+use Rattle.le.specs.Le.{u16At}
+use Rattle.tree.specs.Tree.{Head, Tree, one, records, size, depth}
+use Rattle.tree.specs.Below.{allBelow, and-both, and-left, and-right, all-at, all-of}
+use Rattle.tree.specs.Record.{recordOk, included}
+use Rattle.tree.specs.Children.{nodeOk, formed, wellFormed}
+use Rattle.tree.specs.File.{preorder, le16, bytes, header, fileBytes, allEncodable}
+use Rattle.tree.specs.Fields.{versionOf, settingsOf, countOf, start, headAt, subtreeAt}
+use Rattle.tree.specs.Refusal.{Limits, markOk, versionOk, settingsOk, countOk, recordsOk, allIncluded, shapeAt, shapeOk, decode, treeOf, depthOk, unless, refusal}
+use Rattle.tree.specs.Stands.{Stands, Tested, decoded-root, decode-stands, tested-of}
+use Rattle.tree.specs.Encoding.{Bytes, length-bytes, drop-next, drop-u16, bytes-stand, encodable-stand, stand-bytes}
+use Rattle.tree.specs.Kind as kind
+
+-- No refusal: each test holds.
+pub record Passed (limits : Limits) (s : List ℕ) : Type 0 where
+  pub mark : markOk s ≡ true
+  pub version : versionOk s ≡ true
+  pub settings : settingsOk s ≡ true
+  pub counted : countOk (limits .records) s ≡ true
+  pub recorded : recordsOk s ≡ true
+  pub is-included : allIncluded s ≡ true
+  pub shape : shapeOk s ≡ true
+  pub low : depthOk (limits .depth) s ≡ true
+
+unless-ok : (b : Bool) (n r : ℕ) → unless b (suc n) r ≡ 0 → b ≡ true
+unless-ok true n r e = refl
+unless-ok false n r e = absurd (omega arith)
+
+unless-next : (b : Bool) (n r : ℕ) → unless b (suc n) r ≡ 0 → r ≡ 0
+unless-next true n r e = e
+unless-next false n r e = absurd (omega arith)
+
+pub passed : (limits : Limits) (s : List ℕ) → refusal limits s ≡ 0 → Passed limits s
+unfolding refusal
+passed limits s e =
+    let r8 = unless (depthOk (limits .depth) s) 8 0 in
+    let r7 = unless (shapeOk s) 7 r8 in
+    let r6 = unless (allIncluded s) 6 r7 in
+    let r5 = unless (recordsOk s) 5 r6 in
+    let r4 = unless (countOk (limits .records) s) 4 r5 in
+    let r3 = unless (settingsOk s) 3 r4 in
+    let r2 = unless (versionOk s) 2 r3 in
+    let e2 = unless-next (markOk s) 0 r2 e in
+    let e3 = unless-next (versionOk s) 1 r3 e2 in
+    let e4 = unless-next (settingsOk s) 2 r4 e3 in
+    let e5 = unless-next (countOk (limits .records) s) 3 r5 e4 in
+    let e6 = unless-next (recordsOk s) 4 r6 e5 in
+    let e7 = unless-next (allIncluded s) 5 r7 e6 in
+    let e8 = unless-next (shapeOk s) 6 r8 e7 in
+    record {
+      mark = unless-ok (markOk s) 0 r2 e;
+      version = unless-ok (versionOk s) 1 r3 e2;
+      settings = unless-ok (settingsOk s) 2 r4 e3;
+      counted = unless-ok (countOk (limits .records) s) 3 r5 e4;
+      recorded = unless-ok (recordsOk s) 4 r6 e5;
+      is-included = unless-ok (allIncluded s) 5 r7 e6;
+      shape = unless-ok (shapeOk s) 6 r8 e7;
+      low = unless-ok (depthOk (limits .depth) s) 7 0 e8;
+    }
+
+unrefused : (limits : Limits) (s : List ℕ) → Passed limits s → refusal limits s ≡ 0
+unfolding refusal
+unrefused limits s p =
+    rw (p .mark, p .version, p .settings, p .counted, p .recorded, p .is-included, p .shape, p .low)
+
+-- The tests of the count, taken apart.
+pub record Counted (maxRecords : ℕ) (s : List ℕ) : Type 0 where
+  pub some : 1 ≤ countOf s
+  pub few : countOf s ≤ maxRecords
+  pub long : length s ≡ 8 + 16 * countOf s
+
+pub counted-parts : (maxRecords : ℕ) (s : List ℕ) → countOk maxRecords s ≡ true → Counted maxRecords s
+unfolding countOk
+counted-parts maxRecords s w =
+    let some = leb 1 (countOf s) in
+    let few = leb (countOf s) maxRecords in
+    let long = eqb (length s) (8 + 16 * countOf s) in
+    let a = and-left (some && few) long w in
+    record {
+      some = leb-true 1 (countOf s) (and-left some few a);
+      few = leb-true (countOf s) maxRecords (and-right some few a);
+      long = eqb-true (length s) (8 + 16 * countOf s) (and-right (some && few) long w);
+    }
+
+-- The tests of the tree's shape, taken apart.
+record Shaped (s : List ℕ) : Type 0 where
+  root : subtreeAt s 0 ≡ countOf s
+  expression : kind.isExpression (headAt s 0 .kind) ≡ true
+  nodes : allBelow (shapeAt s (countOf s)) (countOf s) ≡ true
+
+shaped-parts : (s : List ℕ) → shapeOk s ≡ true → Shaped s
+unfolding shapeOk
+shaped-parts s w =
+    let root = eqb (subtreeAt s 0) (countOf s) in
+    let expression = kind.isExpression (headAt s 0 .kind) in
+    let nodes = allBelow (shapeAt s (countOf s)) (countOf s) in
+    let a = and-left (root && expression) nodes w in
+    record {
+      root = eqb-true (subtreeAt s 0) (countOf s) (and-left root expression a);
+      expression = and-right root expression a;
+      nodes = and-right (root && expression) nodes w;
+    }
+
+-- The tree of a file that passes the tests of refusals 5 to 7.
+pub record Rooted (s : List ℕ) : Type 0 where
+  pub stands : Stands s 0 (one (treeOf s))
+  pub sized : size (treeOf s) ≡ countOf s
+  pub well : wellFormed (treeOf s) ≡ true
+
+pub rooted : (s : List ℕ) → 1 ≤ countOf s → recordsOk s ≡ true → allIncluded s ≡ true → shapeOk s ≡ true → Rooted s
+unfolding recordsOk allIncluded treeOf wellFormed formed
+rooted s some a b c =
+    let n = countOf s in
+    let q = shaped-parts s c in
+    let tested : (i : ℕ) → i < n → Tested s n i = λ i l. record {
+      record-ok = all-at (λ j. recordOk (headAt s j)) n a i l;
+      is-included = all-at (λ j. included (headAt s j)) n b i l;
+      shape = all-at (shapeAt s n) n (q .nodes) i l;
+    } in
+    let c = decoded-root s n tested (q .root) some in
+    record {
+      stands = (refl, sym (c .0 .counts), omega (arith, q .root, c .0 .ends), c .0 .stands, tt);
+      sized = omega (arith, c .0 .ends);
+      well = and-both (q .expression) (and-both (c .1) (c .0 .ok));
+    }
+
+-- The mark, taken apart.
+record Marked (s : List ℕ) : Type 0 where
+  long : 8 ≤ length s
+  u : getD s 0 0 ≡ 85
+  x : getD s 1 0 ≡ 88
+  t : getD s 2 0 ≡ 84
+
+marked-parts : (s : List ℕ) → markOk s ≡ true → Marked s
+unfolding markOk
+marked-parts s w =
+    let long = leb 8 (length s) in
+    let u = eqb (getD s 0 0) 85 in
+    let x = eqb (getD s 1 0) 88 in
+    let t = eqb (getD s 2 0) 84 in
+    let a = and-right long (u && (x && t)) w in
+    let b = and-right u (x && t) a in
+    record {
+      long = leb-true 8 (length s) (and-left long (u && (x && t)) w);
+      u = eqb-true (getD s 0 0) 85 (and-left u (x && t) a);
+      x = eqb-true (getD s 1 0) 88 (and-left x t b);
+      t = eqb-true (getD s 2 0) 84 (and-right x t b);
+    }
+
+pub mark-long : (s : List ℕ) → markOk s ≡ true → 8 ≤ length s
+mark-long s w = marked-parts s w .long
+
+-- A file's first eight bytes are its header.
+header-is : (s : List ℕ) → Bytes s → markOk s ≡ true → versionOk s ≡ true → s ≡ header (settingsOf s) (countOf s) (drop 8 s)
+unfolding versionOk
+header-is s bs w v =
+    let m = marked-parts s w in
+    drop-next s 0 1 (omega (arith, m .long)) refl
+    ∙ ap₂ (_∷_) (m .u) (drop-next s 1 2 (omega (arith, m .long)) refl
+    ∙ ap₂ (_∷_) (m .x) (drop-next s 2 3 (omega (arith, m .long)) refl
+    ∙ ap₂ (_∷_) (m .t) (drop-u16 s bs 3 5 1 (omega (arith, m .long)) refl (eqb-true (versionOf s) 1 v)
+    ∙ ap (le16 1) (drop-next s 5 6 (omega (arith, m .long)) refl
+    ∙ ap (λ (r : List ℕ). settingsOf s ∷ r) (drop-u16 s bs 6 8 (countOf s) (omega (arith, m .long)) refl refl)))))
+
+-- An accepted file, and its tree.
+pub record Accepted (limits : Limits) (s : List ℕ) : Type 0 where
+  pub is-file : s ≡ fileBytes (settingsOf s) (treeOf s)
+  pub settings : settingsOf s < 8
+  pub well : wellFormed (treeOf s) ≡ true
+  pub fits : allEncodable (one (treeOf s)) ≡ true
+  pub sized : size (treeOf s) ≡ countOf s
+  pub few : size (treeOf s) ≤ limits .records
+  pub low : depth (treeOf s) ≤ limits .depth
+  pub stands : Stands s 0 (one (treeOf s))
+
+-- What is accepted is the bytes of a well-formed tree within the limits.
+pub accepted : (limits : Limits) (s : List ℕ) → Bytes s → refusal limits s ≡ 0 → Accepted limits s
+unfolding settingsOk depthOk fileBytes
+accepted limits s bs e =
+    let p = passed limits s e in
+    let k = counted-parts (limits .records) s (p .counted) in
+    let r = rooted s (k .some) (p .recorded) (p .is-included) (p .shape) in
+    let all : drop 8 s ≡ bytes (preorder (one (treeOf s))) ++ drop (start (countOf s)) s =
+    bytes-stand s bs (one (treeOf s)) 0 (countOf s) (r .stands) (omega (arith, k .long, r .sized)) (omega (arith, r .sized)) in
+    let end : drop (start (countOf s)) s ≡ [] = (let l : length s ≤ start (countOf s) = omega (arith, k .long) in drop-of-length-le s l) in
+    record {
+      is-file =
+          header-is s bs (p .mark) (p .version)
+          ∙ ap (header (settingsOf s) (countOf s)) (all ∙ rw (end, append-nil))
+          ∙ ap (λ (n : ℕ). header (settingsOf s) n (bytes (preorder (one (treeOf s))))) (sym (r .sized));
+      settings = ltb-true (settingsOf s) 8 (p .settings);
+      well = r .well;
+      fits = encodable-stand s bs (one (treeOf s)) 0 (r .stands);
+      sized = r .sized;
+      few = omega (arith, r .sized, k .few);
+      low = leb-true (depth (treeOf s)) (limits .depth) (p .low);
+      stands = r .stands;
+    }
+
+-- A tree that a file may hold, within the limits.
+pub record Fits (limits : Limits) (settings : ℕ) (t : Tree) : Type 0 where
+  pub settings-ok : settings < 8
+  pub well : wellFormed t ≡ true
+  pub few : size t ≤ limits .records
+  pub low : depth t ≤ limits .depth
+
+module _ (settings : ℕ) (t : Tree) where
+  s : List ℕ
+  s = fileBytes settings t
+
+  count-is : countOf s ≡ size t
+  unfolding s fileBytes u16At
+  count-is = omega arith
+
+  length-is : length s ≡ 8 + 16 * size t
+  unfolding s fileBytes
+  length-is = omega (arith, length-bytes (one t))
+
+  stands-is : Stands s 0 (one t)
+  unfolding s fileBytes
+  stands-is = stand-bytes s (one t) 0 [] (sym (append-nil (bytes (preorder (one t)))))
+
+  -- The file of a tree holds that tree.
+  pub tree-is : treeOf (fileBytes settings t) ≡ t
+  unfolding treeOf s
+  tree-is =
+      let n = count-is in
+      let kids : decode (countOf s) s 1 (countOf s) ≡ t .kids =
+      decode-stands s (countOf s) 1 (countOf s) (t .kids) (stands-is .3) (omega (arith, n)) (omega (arith, n)) in
+      λ i. record { head = stands-is .0 i; kids = kids i }
+
+  -- Its settings are those that it was written with.
+  pub settings-is : settingsOf (fileBytes settings t) ≡ settings
+  unfolding fileBytes
+  settings-is = refl
+
+  mark-is : markOk s ≡ true
+  unfolding s markOk fileBytes
+  mark-is = and-both (le-leb 8 (length s) (omega (arith, length-is))) refl
+
+  version-is : versionOk s ≡ true
+  unfolding s versionOk fileBytes u16At
+  version-is = refl
+
+  settings-ok-is : settings < 8 → settingsOk s ≡ true
+  unfolding s settingsOk fileBytes
+  settings-ok-is l = lt-ltb settings 8 l
+
+  counted-is : (maxRecords : ℕ) → size t ≤ maxRecords → countOk maxRecords s ≡ true
+  unfolding countOk
+  counted-is maxRecords l =
+      let n = count-is in
+      and-both (and-both (le-leb 1 (countOf s) (omega (arith, n))) (le-leb (countOf s) maxRecords (omega (arith, n))))
+      (eq-eqb (length s) (8 + 16 * countOf s) (omega (arith, n, length-is)))
+
+  low-is : (maxDepth : ℕ) → depth t ≤ maxDepth → depthOk maxDepth s ≡ true
+  unfolding depthOk s
+  low-is maxDepth l = rw tree-is (le-leb (depth t) maxDepth l)
+
+  module _ (well : wellFormed t ≡ true) where
+    expression-is : kind.isExpression (t .head .kind) ≡ true
+    unfolding wellFormed
+    expression-is = and-left (kind.isExpression (t .head .kind)) (nodeOk (t .head) (t .kids) && formed (t .kids)) well
+
+    formed-is : formed (one t) ≡ true
+    unfolding wellFormed formed
+    formed-is =
+        let w = and-right (kind.isExpression (t .head .kind)) (nodeOk (t .head) (t .kids) && formed (t .kids)) well in
+        and-both (and-left (nodeOk (t .head) (t .kids)) (formed (t .kids)) w) (and-both (and-right (nodeOk (t .head) (t .kids)) (formed (t .kids)) w) refl)
+
+    tested : (i : ℕ) → i < countOf s → Tested s (countOf s) i
+    tested i l = let n = count-is in tested-of s (countOf s) 0 (one t) stands-is formed-is (omega (arith, n)) i (omega arith) (omega (arith, n))
+
+    records-are : recordsOk s ≡ true
+    unfolding recordsOk
+    records-are = all-of (λ i. recordOk (headAt s i)) (countOf s) (λ i l. tested i l .record-ok)
+
+    included-are : allIncluded s ≡ true
+    unfolding allIncluded
+    included-are = all-of (λ i. included (headAt s i)) (countOf s) (λ i l. tested i l .is-included)
+
+    shape-is : shapeOk s ≡ true
+    unfolding shapeOk
+    shape-is =
+        and-both (and-both (eq-eqb (subtreeAt s 0) (countOf s) (stands-is .2 ∙ sym count-is))
+        (subst (λ (x : Head). kind.isExpression (x .kind) ≡ true) (sym (stands-is .0)) expression-is))
+        (all-of (shapeAt s (countOf s)) (countOf s) (λ i l. tested i l .shape))
+
+  -- The bytes of a well-formed tree within the limits are accepted.
+  pub accepts : (limits : Limits) → Fits limits settings t → refusal limits (fileBytes settings t) ≡ 0
+  unfolding s
+  accepts limits f = unrefused limits s (record {
+    mark = mark-is;
+    version = version-is;
+    settings = settings-ok-is (f .settings-ok);
+    counted = counted-is (limits .records) (f .few);
+    recorded = records-are (f .well);
+    is-included = included-are (f .well);
+    shape = shape-is (f .well);
+    low = low-is (limits .depth) (f .low);
+  })

@@ -1,0 +1,11 @@
+pub mod Tree
+pub mod Kind
+pub mod Below
+pub mod Record
+pub mod Children
+pub mod File
+pub mod Fields
+pub mod Refusal
+pub mod Stands
+pub mod Encoding
+pub mod Accepted

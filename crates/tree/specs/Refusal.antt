@@ -1,0 +1,91 @@
+-- Refusals 1 to 8 of a list of bytes, in 01's order: each number is tested over all records before the next.
+use mathlib.Core.Bool.{Bool, true, false, cond, _&&_}
+use mathlib.Core.List.{List}
+use Prim.Native.Nat.{ℕ, zero, suc, _+_, _*_}
+use lib.Dec.{eqb, leb, ltb}
+use lib.ListN.{length, getD}
+use Rattle.tree.specs.Tree.{Head, Forest, nil, node, Tree, depth}
+use Rattle.tree.specs.Below.{allBelow}
+use Rattle.tree.specs.Record.{recordOk, included}
+use Rattle.tree.specs.Children.{childCountOk, mayStand}
+use Rattle.tree.specs.Fields.{versionOf, settingsOf, countOf, headAt, childrenAt, subtreeAt}
+use Rattle.tree.specs.Kind as kind
+
+-- How many records and levels are taken: 2,000 and 64 in Reduce, 3,999 and 65 in List effects.
+pub record Limits : Type 0 where
+  pub records : ℕ
+  pub depth : ℕ
+
+-- "1 under 8 bytes or mark wrong"
+unfoldable pub markOk : List ℕ → Bool
+markOk s = leb 8 (length s) && (eqb (getD s 0 0) 85 && (eqb (getD s 1 0) 88 && eqb (getD s 2 0) 84))
+
+-- "2 version"
+unfoldable pub versionOk : List ℕ → Bool
+versionOk s = eqb (versionOf s) 1
+
+-- "3 setting bits 3–7"
+unfoldable pub settingsOk : List ℕ → Bool
+settingsOk s = ltb (settingsOf s) 8
+
+-- "4 count not 1–2,000, or length not 8 + 16 × N"
+unfoldable pub countOk : ℕ → List ℕ → Bool
+countOk maxRecords s = (leb 1 (countOf s) && leb (countOf s) maxRecords) && eqb (length s) (8 + 16 * countOf s)
+
+-- "5 kind, facts, sub or byte 3"
+unfoldable pub recordsOk : List ℕ → Bool
+recordsOk s = allBelow (λ i. recordOk (headAt s i)) (countOf s)
+
+-- "6 kinds 20–22"
+unfoldable pub allIncluded : List ℕ → Bool
+allIncluded s = allBelow (λ i. included (headAt s i)) (countOf s)
+
+-- From record p on, k children of the node h, one behind the other by their subtree sizes, end exactly at record e, and each may
+-- stand there. `first`: whether the child at p is the first one.
+unfoldable pub childrenEnd : List ℕ → Head → Bool → ℕ → ℕ → ℕ → Bool
+childrenEnd s h first zero p e = eqb p e
+childrenEnd s h first (suc k) p e =
+    (leb 1 (subtreeAt s p) && leb (p + subtreeAt s p) e)
+    && (mayStand h first (headAt s p .kind) && childrenEnd s h false k (p + subtreeAt s p) e)
+
+-- Record i of n: its child count is one that its kind has, and its children end where its subtree does.
+unfoldable pub shapeAt : List ℕ → ℕ → ℕ → Bool
+shapeAt s n i =
+    leb (i + subtreeAt s i) n
+    && (childCountOk (headAt s i) (childrenAt s i)
+    && childrenEnd s (headAt s i) true (childrenAt s i) (i + 1) (i + subtreeAt s i))
+
+-- "7 child counts, subtree sizes (the root's is N), or a kind where it may not stand"; "the root, is an expression"
+unfoldable pub shapeOk : List ℕ → Bool
+shapeOk s =
+    (eqb (subtreeAt s 0) (countOf s) && kind.isExpression (headAt s 0 .kind)) && allBelow (shapeAt s (countOf s)) (countOf s)
+
+-- The trees that stand from record p to record e, each by its subtree size; `fuel` bounds the records read.
+unfoldable pub decode : ℕ → List ℕ → ℕ → ℕ → Forest
+decode zero s p e = nil
+decode (suc fuel) s p e =
+    cond (ltb p e)
+    (node (headAt s p) (decode fuel s (p + 1) (p + subtreeAt s p)) (decode fuel s (p + subtreeAt s p) e)) nil
+
+-- The tree of a file: record 0 is its root.
+unfoldable pub treeOf : List ℕ → Tree
+treeOf s = record { head = headAt s 0; kids = decode (countOf s) s 1 (countOf s) }
+
+-- "8 depth over 64 (root 1)"
+unfoldable pub depthOk : ℕ → List ℕ → Bool
+depthOk maxDepth s = leb (depth (treeOf s)) maxDepth
+
+abbrev pub unless : Bool → ℕ → ℕ → ℕ
+unless ok number next = cond ok next number
+
+-- The number with which a file is refused; 0 where it is accepted.
+unfoldable pub refusal : Limits → List ℕ → ℕ
+refusal limits s =
+    unless (markOk s) 1
+    (unless (versionOk s) 2
+    (unless (settingsOk s) 3
+    (unless (countOk (limits .records) s) 4
+    (unless (recordsOk s) 5
+    (unless (allIncluded s) 6
+    (unless (shapeOk s) 7
+    (unless (depthOk (limits .depth) s) 8 0)))))))

@@ -1,0 +1,1 @@
+// The tree file: its definitions and theorems are in specs/.

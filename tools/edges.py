@@ -1,0 +1,738 @@
+#!/usr/bin/env python3
+"""Edge cases of the tree file, and the answer that each of them gets.
+
+An independent reading of document 01, "The tree file" and refusals 1 to 8: it shares no code with
+the crates. The program `edges` (crates/edges) reads the cases and must print the expected lines.
+
+  edges.py cases               the cases, binary: for each its length in bytes (two bytes, little-endian)
+                               and its bytes. The longest has 64,008
+  edges.py expected            a line for each case: the answer under Reduce's limits, a space, the
+                               answer under List effects' limits. An answer is the number of the
+                               refusal, or SETTINGS/RECORDS where the file is accepted
+  edges.py names               a line for each case: what it is
+  edges.py example NAME        the bytes of examples/NAME.uxt
+  edges.py examples-expected   the lines of examples/expected
+
+Every answer comes from the reader below. Beside a case stands the answer worked out by hand, and
+the script stops where the two differ; only the cases of `changed_bytes` have none.
+"""
+
+import sys
+
+REDUCE = (2000, 64)  # most records, greatest depth
+LIST_EFFECTS = (3999, 65)
+
+(LITERAL, IDENTIFIER, FUNCTION, ARROW, OTHER_LEAF, THIS, ARRAY, ELISION, SPREAD, OBJECT, PROPERTY,
+ TEMPLATE, SEQUENCE, UNARY, BINARY, CALL, NEW, CLASS, ELEMENT, LOGICAL, CONDITIONAL,
+ ASSIGNMENT) = range(1, 23)
+
+# ---- The reader
+
+
+def u16(data, at):
+    return data[at] + 256 * data[at + 1]
+
+
+class Record:
+    def __init__(self, data, index):
+        at = 8 + 16 * index
+        self.kind, self.facts, self.sub, self.zero = data[at:at + 4]
+        self.children, self.size = u16(data, at + 4), u16(data, at + 6)
+
+
+def answer(data, limits):
+    """The number of the refusal, or 'SETTINGS/RECORDS'."""
+    most_records, most_depth = limits
+    if len(data) < 8 or data[0:3] != b"UXT":
+        return 1
+    if u16(data, 3) != 1:
+        return 2
+    if data[5] >= 8:
+        return 3
+    count = u16(data, 6)
+    if not 1 <= count <= most_records or len(data) != 8 + 16 * count:
+        return 4
+    records = [Record(data, i) for i in range(count)]
+    if not all(fields_fit(r) for r in records):
+        return 5
+    if any(r.kind in (LOGICAL, CONDITIONAL, ASSIGNMENT) for r in records):
+        return 6
+    try:
+        if records[0].size != count or not is_expression(records[0].kind):
+            raise Misshapen
+        depth = subtree_depth(records, 0)
+    except Misshapen:
+        return 7
+    if depth > most_depth:
+        return 8
+    return f"{data[5]}/{count}"
+
+
+def fields_fit(r):
+    return 1 <= r.kind <= 22 and facts_fit(r.kind, r.facts) and sub_fits(r.kind, r.sub) and r.zero == 0
+
+
+def facts_fit(kind, facts):
+    if kind == LITERAL:
+        return facts == 18
+    symbol, string = facts >> 1 & 3, facts >> 3 & 3
+    return (facts & ~allowed_facts(kind) == 0 and symbol != 3 and string != 3
+            and (string != 2 or symbol == 1))
+
+
+def allowed_facts(kind):
+    if kind in (ELISION, PROPERTY, ELEMENT):
+        return 0
+    return {SPREAD: 1, CALL: 255, NEW: 127}.get(kind, 31)
+
+
+def sub_fits(kind, sub):
+    if kind == ELEMENT:
+        return element_sub_fits(sub)
+    low, high = {PROPERTY: (0, 1), UNARY: (1, 4), BINARY: (1, 3), CLASS: (0, 3)}.get(kind, (0, 0))
+    return low <= sub <= high
+
+
+def element_sub_fits(sub):
+    form = sub & 7
+    if not 1 <= form <= 5:
+        return False
+    if form in (4, 5) and sub & 0b0111_1000:
+        return False
+    if sub & 0b1000_0000 and form != 4:
+        return False
+    return not (sub & 0b0100_0000 and form not in (2, 3))
+
+
+class Misshapen(Exception):
+    """A child count, a subtree size or the place of a kind is wrong."""
+
+
+def subtree_depth(records, at):
+    """The depth of the subtree at a record, all of whose shape is tested on the way."""
+    parent = records[at]
+    end = at + parent.size
+    if not child_count_fits(parent) or end > len(records):
+        raise Misshapen
+    depth, child = 0, at + 1
+    for index in range(parent.children):
+        if child >= end or not may_stand(parent, index, records[child].kind):
+            raise Misshapen
+        depth = max(depth, subtree_depth(records, child))
+        child += records[child].size
+    if child != end:
+        raise Misshapen
+    return depth + 1
+
+
+def child_count_fits(r):
+    if r.kind <= THIS or r.kind == ELISION:
+        return r.children == 0
+    if r.kind in (SPREAD, UNARY):
+        return r.children == 1
+    if r.kind == BINARY:
+        return r.children == 2
+    if r.kind == PROPERTY:
+        return r.children == 1 + r.sub
+    if r.kind in (CALL, NEW):
+        return r.children >= 1
+    if r.kind == CLASS:
+        return r.children >= (r.sub >> 1 & 1)
+    if r.kind == ELEMENT:
+        return r.children == (r.sub >> 4 & 1) + (r.sub >> 6 & 1)
+    return True
+
+
+def is_expression(kind):
+    return kind not in (ELISION, SPREAD, PROPERTY, ELEMENT)
+
+
+def may_stand(parent, index, kind):
+    if parent.kind == ARRAY:
+        return is_expression(kind) or kind in (SPREAD, ELISION)
+    if parent.kind in (CALL, NEW) and index > 0:
+        return is_expression(kind) or kind == SPREAD
+    if parent.kind == OBJECT:
+        return kind in (SPREAD, PROPERTY)
+    if parent.kind == CLASS and not (index == 0 and parent.sub & 2):
+        return kind == ELEMENT
+    return is_expression(kind)
+
+
+# ---- Writing tree files, whole and broken
+
+
+class Node:
+    def __init__(self, kind, *children, facts=None, sub=0, text=0, place=0, zero=0):
+        self.kind, self.children = kind, children
+        self.facts = facts if facts is not None else 18 if kind == LITERAL else 0
+        self.sub, self.text, self.place, self.zero = sub, text, place, zero
+
+
+def put(node, out):
+    """Appends the records of a tree to a list of records, parent before children."""
+    at = len(out)
+    out.append(b"")
+    for child in node.children:
+        put(child, out)
+    out[at] = (bytes([node.kind, node.facts, node.sub, node.zero])
+               + len(node.children).to_bytes(2, "little") + (len(out) - at).to_bytes(2, "little")
+               + node.text.to_bytes(4, "little") + node.place.to_bytes(4, "little"))
+
+
+def tree_file(root, settings=0):
+    records = []
+    put(root, records)
+    return b"UXT" + bytes([1, 0, settings]) + len(records).to_bytes(2, "little") + b"".join(records)
+
+
+VERSION, SETTINGS, COUNT = 3, 5, 6  # offsets in the header
+KIND, FACTS, SUB, ZERO, CHILDREN, SIZE = 0, 1, 2, 3, 4, 6  # offsets in a record
+
+
+def of(record, field):
+    """The offset of a field of a record in the file."""
+    return 8 + 16 * record + field
+
+
+def with_byte(data, at, value):
+    return data[:at] + bytes([value]) + data[at + 1:]
+
+
+def with_u16(data, at, value):
+    return data[:at] + (value % 65536).to_bytes(2, "little") + data[at + 2:]
+
+
+def plus(data, at, change):
+    return with_u16(data, at, u16(data, at) + change)
+
+
+def identifier():
+    return Node(IDENTIFIER)
+
+
+def void(argument):
+    return Node(UNARY, argument, sub=1)
+
+
+def chain(depth, wrap=void, inner=identifier):
+    node = inner()
+    for _ in range(depth - 1):
+        node = wrap(node)
+    return node
+
+
+def sample(kind, sub=None, facts=None, zero=0):
+    """A node of the kind with as many children as it must have, and no more."""
+    if sub is None:
+        sub = {UNARY: 1, BINARY: 1, ELEMENT: 1}.get(kind, 0)
+    count = {SPREAD: 1, UNARY: 1, BINARY: 2, CALL: 1, NEW: 1}.get(kind, 0)
+    if kind == PROPERTY:
+        count = 2 if sub == 1 else 1
+    if kind == CLASS:
+        count = sub >> 1 & 1
+    if kind == ELEMENT:
+        count = (sub >> 4 & 1) + (sub >> 6 & 1)
+    return Node(kind, *[identifier() for _ in range(count)], facts=facts, sub=sub, zero=zero)
+
+
+def around(node):
+    """The node where it may stand: alone, or in a parent that takes it."""
+    parent = {ELISION: ARRAY, SPREAD: ARRAY, PROPERTY: OBJECT, ELEMENT: CLASS}.get(node.kind)
+    return node if parent is None else Node(parent, node)
+
+
+# ---- The cases
+
+
+class Cases:
+    def __init__(self):
+        self.cases = []
+
+    def add(self, name, data):
+        self.cases.append((name, data, answer(data, REDUCE), answer(data, LIST_EFFECTS)))
+
+    def edge(self, name, data, reduce, list_effects=None):
+        """A case with the answer by hand; that under List effects' limits only where it differs."""
+        self.add(name, data)
+        read = self.cases[-1][2:]
+        hand = (reduce, reduce if list_effects is None else list_effects)
+        if read != hand:
+            sys.exit(f"edges.py: {name}: the reader answers {read}, and by hand it is {hand}")
+
+
+GOOD = tree_file(identifier())
+
+
+def lengths(c):
+    for length in range(8):
+        c.edge(f"the first {length} bytes of a good file", GOOD[:length], 1)
+    for length in range(8, 24):
+        c.edge(f"the first {length} bytes of a good file", GOOD[:length], 4)
+    c.edge("a good file of one record", GOOD, "0/1")
+    c.edge("a good file and one byte more", GOOD + b"\0", 4)
+    for length in range(10):
+        c.edge(f"{length} zero bytes", bytes(length), 1)
+
+
+def header(c):
+    for at, wrong in ((0, b"V"), (1, b"W"), (2, b"S")):
+        c.edge(f"mark byte {at} is {wrong.decode()}", with_byte(GOOD, at, wrong[0]), 1)
+    c.edge("mark in small letters", b"uxt" + GOOD[3:], 1)
+    c.edge("mark wrong in a file of 8 bytes", b"UXU" + GOOD[3:8], 1)
+    for version in (0, 2, 255, 256, 257, 65535):
+        c.edge(f"version {version}", with_u16(GOOD, VERSION, version), 2)
+    for settings in range(8):
+        c.edge(f"settings {settings}", with_byte(GOOD, SETTINGS, settings), f"{settings}/1")
+    for settings in (8, 9, 15, 16, 32, 64, 128, 135, 255):
+        c.edge(f"settings {settings}", with_byte(GOOD, SETTINGS, settings), 3)
+
+
+def counts(c):
+    c.edge("count 0 and no record", with_u16(GOOD, COUNT, 0)[:8], 4)
+    c.edge("count 0 and one record", with_u16(GOOD, COUNT, 0), 4)
+    c.edge("count 1 and no record", GOOD[:8], 4)
+    c.edge("count 1 and two records", GOOD + GOOD[8:], 4)
+    c.edge("count 2 and one record", with_u16(GOOD, COUNT, 2), 4)
+    c.edge("count 257 and one record", with_u16(GOOD, COUNT, 257), 4)
+    for count in (2000, 2001, 3999, 4000, 65535):
+        c.edge(f"count {count} and one record", with_u16(GOOD, COUNT, count), 4)
+        c.edge(f"count {count} and no record", with_u16(GOOD, COUNT, count)[:8], 4)
+    pair = tree_file(void(identifier()))
+    c.edge("two records", pair, "0/2")
+    c.edge("two records, one byte short", pair[:-1], 4)
+    c.edge("two records, one byte long", pair + b"\0", 4)
+
+
+def flat(count):
+    return tree_file(Node(ARRAY, *[Node(ELISION) for _ in range(count - 1)]))
+
+
+def record_limits(c):
+    c.edge("2,000 records", flat(2000), "0/2000")
+    c.edge("2,001 records", flat(2001), 4, "0/2001")
+    c.edge("3,999 records", flat(3999), 4, "0/3999")
+    c.edge("4,000 records", flat(4000), 4)
+    c.edge("2,001 records, the last one's byte 3 is 1", with_byte(flat(2001), of(2000, ZERO), 1), 4, 5)
+    c.edge("2,000 records, each under the one before", tree_file(chain(2000)), 8)
+    c.edge("3,999 records, each under the one before", tree_file(chain(3999)), 4, 8)
+
+
+def kinds(c):
+    """One record of each kind, facts and sub 0 and no children."""
+    by_hand = {kind: "0/1" for kind in (2, 3, 4, 5, 6, 7, 10, 12, 13, 18)}
+    by_hand.update({kind: 7 for kind in (8, 9, 11, 16, 17)})
+    by_hand.update({kind: 6 for kind in (20, 21, 22)})  # the rest is 5
+    for kind in range(256):
+        c.edge(f"kind {kind} alone", tree_file(Node(kind, facts=0)), by_hand.get(kind, 5))
+
+
+def accepted(c):
+    """Each kind with each sub and number of children that it takes."""
+    one, spread, elision = identifier(), Node(SPREAD, identifier()), Node(ELISION)
+    key_value = Node(PROPERTY, one, one, sub=1)
+    value = Node(PROPERTY, one)
+    method = Node(ELEMENT, sub=1)
+    for name, root, count in (
+            ("string literal", Node(LITERAL), 1),
+            ("string literal, its text not 0", Node(LITERAL, text=7), 1),
+            ("text and place as large as they get", Node(LITERAL, text=2 ** 32 - 1, place=2 ** 32 - 1), 1),
+            ("identifier", one, 1),
+            ("function", Node(FUNCTION), 1),
+            ("arrow", Node(ARROW), 1),
+            ("other leaf", Node(OTHER_LEAF), 1),
+            ("this", Node(THIS), 1),
+            ("array, empty", Node(ARRAY), 1),
+            ("array of an elision", Node(ARRAY, elision), 2),
+            ("array of a spread", Node(ARRAY, spread), 3),
+            ("array of an expression, an elision and a spread", Node(ARRAY, one, elision, spread), 5),
+            ("object, empty", Node(OBJECT), 1),
+            ("object of a spread", Node(OBJECT, spread), 3),
+            ("object of a value", Node(OBJECT, value), 3),
+            ("object of a key with its value", Node(OBJECT, key_value), 4),
+            ("object of a value, a spread, a key with its value", Node(OBJECT, value, spread, key_value), 8),
+            ("template, empty", Node(TEMPLATE), 1),
+            ("template of one", Node(TEMPLATE, one), 2),
+            ("template of three, its text not 0", Node(TEMPLATE, one, one, one, text=1), 4),
+            ("sequence, empty", Node(SEQUENCE), 1),
+            ("sequence of one", Node(SEQUENCE, one), 2),
+            ("sequence of a sequence and another", Node(SEQUENCE, Node(SEQUENCE, one), one), 4),
+            ("unary: void", Node(UNARY, one, sub=1), 2),
+            ("unary: not", Node(UNARY, one, sub=2), 2),
+            ("unary: typeof", Node(UNARY, one, sub=3), 2),
+            ("unary: other", Node(UNARY, one, sub=4), 2),
+            ("binary: comparison", Node(BINARY, one, one, sub=1), 3),
+            ("binary: addition", Node(BINARY, one, one, sub=2), 3),
+            ("binary: other", Node(BINARY, one, one, sub=3), 3),
+            ("call with no argument", Node(CALL, one), 2),
+            ("call with an argument", Node(CALL, one, one), 3),
+            ("call with a spread and an argument", Node(CALL, one, spread, one), 5),
+            ("new with no argument", Node(NEW, one), 2),
+            ("new with an argument", Node(NEW, one, one), 3),
+            ("new with an argument and a spread", Node(NEW, one, one, spread), 5),
+            ("class, empty", Node(CLASS), 1),
+            ("class, decorated, empty", Node(CLASS, sub=1), 1),
+            ("class with heritage alone", Node(CLASS, one, sub=2), 2),
+            ("class, decorated, with heritage alone", Node(CLASS, one, sub=3), 2),
+            ("class of three elements", Node(CLASS, method, method, method), 4),
+            ("class with heritage and two elements", Node(CLASS, one, method, method, sub=2), 4),
+            ("class with a class as heritage", Node(CLASS, Node(CLASS), sub=2), 2)):
+        c.edge(f"accepted: {name}", tree_file(root), f"0/{count}")
+
+
+FACTS_OF_MOST = {0, 1, 2, 3, 4, 5, 8, 9, 10, 11, 12, 13, 18, 19}
+FACTS_BY_HAND = {
+    LITERAL: {18},
+    ELISION: {0}, PROPERTY: {0}, ELEMENT: {0},
+    SPREAD: {0, 1},
+    NEW: {more + facts for more in (0, 32, 64, 96) for facts in FACTS_OF_MOST},
+    CALL: {more + facts for more in range(0, 256, 32) for facts in FACTS_OF_MOST},
+}
+# Each bit alone; each value of each pair of bits; string yes with each symbol; the whole mask.
+FACTS_TRIED = (0, 1, 2, 4, 6, 7, 8, 10, 12, 16, 18, 19, 20, 22, 24, 26, 27, 30, 31, 32, 34, 50, 51, 63, 64, 96,
+               115, 127, 128, 146, 160, 192, 224, 243, 255)
+
+
+def accepted_as(kind, root):
+    """What a file of the accepted node gets: kinds 20 to 22 are refused next."""
+    if kind in (LOGICAL, CONDITIONAL, ASSIGNMENT):
+        return 6
+    return f"0/{u16(tree_file(root), COUNT)}"
+
+
+def facts(c):
+    for kind in range(1, 23):
+        allowed = FACTS_BY_HAND.get(kind, FACTS_OF_MOST)
+        for value in range(256) if kind in (LITERAL, IDENTIFIER, CALL) else FACTS_TRIED:
+            root = around(sample(kind, facts=value))
+            c.edge(f"kind {kind}, facts {value}", tree_file(root),
+                   accepted_as(kind, root) if value in allowed else 5)
+
+
+SUBS_BY_HAND = {PROPERTY: {0, 1}, UNARY: {1, 2, 3, 4}, BINARY: {1, 2, 3}, CLASS: {0, 1, 2, 3}}
+ELEMENT_SUBS_BY_HAND = {
+    1, 9, 17, 25, 33, 41, 49, 57,  # method: static, computed key, decorated
+    2, 10, 18, 26, 34, 42, 50, 58, 66, 74, 82, 90, 98, 106, 114, 122,  # property: the same and value
+    3, 11, 19, 27, 35, 43, 51, 59, 67, 75, 83, 91, 99, 107, 115, 123,  # accessor: the same and value
+    4, 132,  # static block: nonempty
+    5,  # index signature
+}
+
+
+def subs(c):
+    for kind in range(1, 23):
+        if kind == ELEMENT:
+            continue
+        for sub in (0, 1, 2, 3, 4, 5, 6, 7, 8, 16, 32, 64, 128, 129, 255):
+            root = around(sample(kind, sub=sub))
+            c.edge(f"kind {kind}, sub {sub}", tree_file(root),
+                   accepted_as(kind, root) if sub in SUBS_BY_HAND.get(kind, {0}) else 5)
+    for sub in range(256):
+        root = around(sample(ELEMENT, sub=sub))
+        c.edge(f"class element, sub {sub}", tree_file(root),
+               accepted_as(ELEMENT, root) if sub in ELEMENT_SUBS_BY_HAND else 5)
+
+
+def zero_byte(c):
+    for kind in range(1, 23):
+        c.edge(f"kind {kind}, byte 3 is 1", tree_file(around(sample(kind, zero=1))), 5)
+    for zero in (2, 128, 255):
+        c.edge(f"byte 3 is {zero}", tree_file(Node(IDENTIFIER, zero=zero)), 5)
+    three = tree_file(Node(BINARY, identifier(), identifier(), sub=1))
+    for at in range(3):
+        for field, name, value in ((KIND, "kind", 0), (KIND, "kind", 23), (FACTS, "facts", 32),
+                                   (SUB, "sub", 5), (ZERO, "byte 3", 1)):
+            c.edge(f"record {at} of 3, {name} {value}", with_byte(three, of(at, field), value), 5)
+
+
+def child_counts(c):
+    """Wrong numbers of children, each counted and sized as it stands."""
+    one, spread = identifier(), Node(SPREAD, identifier())
+    for kind in (LITERAL, IDENTIFIER, FUNCTION, ARROW, OTHER_LEAF, THIS):
+        c.edge(f"kind {kind} with a child", tree_file(Node(kind, one)), 7)
+    c.edge("elision with a child", tree_file(Node(ARRAY, Node(ELISION, one))), 7)
+    c.edge("spread of none", tree_file(Node(ARRAY, Node(SPREAD))), 7)
+    c.edge("spread of two", tree_file(Node(ARRAY, Node(SPREAD, one, one))), 7)
+    for sub in (1, 2, 3, 4):
+        c.edge(f"unary, sub {sub}, of none", tree_file(Node(UNARY, sub=sub)), 7)
+        c.edge(f"unary, sub {sub}, of two", tree_file(Node(UNARY, one, one, sub=sub)), 7)
+    for sub in (1, 2, 3):
+        for count in (0, 1, 3):
+            c.edge(f"binary, sub {sub}, of {count}", tree_file(Node(BINARY, *[one] * count, sub=sub)), 7)
+    for kind in (CALL, NEW):
+        c.edge(f"kind {kind} without a callee", tree_file(Node(kind)), 7)
+        c.edge(f"kind {kind} of a spread alone", tree_file(Node(kind, spread)), 7)
+    for sub, count in ((0, 0), (0, 2), (1, 0), (1, 1), (1, 3)):
+        c.edge(f"property, sub {sub}, of {count}",
+               tree_file(Node(OBJECT, Node(PROPERTY, *[one] * count, sub=sub))), 7)
+    c.edge("class, its heritage missing", tree_file(Node(CLASS, sub=2)), 7)
+    c.edge("class, decorated, its heritage missing", tree_file(Node(CLASS, sub=3)), 7)
+    c.edge("class, an element in the heritage's stead", tree_file(Node(CLASS, Node(ELEMENT, sub=1), sub=2)), 7)
+    for sub in sorted(ELEMENT_SUBS_BY_HAND):
+        right = len(sample(ELEMENT, sub=sub).children)
+        for count in (right - 1, right + 1) if right > 0 else (1,):
+            c.edge(f"class element, sub {sub}, of {count}",
+                   tree_file(Node(CLASS, Node(ELEMENT, *[one] * count, sub=sub))), 7)
+
+
+def shapes(c):
+    """Child counts and sizes that do not fit the records."""
+    # 0 array, 1 call, 2 callee, 3 argument, 4 object, 5 property, 6 key, 7 value, 8 elision
+    nine = tree_file(Node(ARRAY, Node(CALL, identifier(), identifier()),
+                          Node(OBJECT, Node(PROPERTY, identifier(), identifier(), sub=1)), Node(ELISION)))
+    c.edge("nine records", nine, "0/9")
+    for at, where in ((0, "first"), (4, "middle"), (8, "last")):
+        for field, name in ((CHILDREN, "child count"), (SIZE, "subtree size")):
+            for change in (1, -1):
+                c.edge(f"{name} of the {where} record {change:+d}", plus(nine, of(at, field), change), 7)
+    for at in range(9):
+        c.edge(f"size of record {at} is 0", with_u16(nine, of(at, SIZE), 0), 7)
+        c.edge(f"size of record {at} is 65535", with_u16(nine, of(at, SIZE), 65535), 7)
+        c.edge(f"child count of record {at} is 65535", with_u16(nine, of(at, CHILDREN), 65535), 7)
+        c.edge(f"child count of record {at} is 256 more", plus(nine, of(at, CHILDREN), 256), 7)
+        c.edge(f"size of record {at} is 256 more", plus(nine, of(at, SIZE), 256), 7)
+    c.edge("the root alone has size 0", with_u16(GOOD, of(0, SIZE), 0), 7)
+    c.edge("the root alone has size 2", with_u16(GOOD, of(0, SIZE), 2), 7)
+    c.edge("a child runs past its parent's end", with_u16(nine, of(7, SIZE), 2), 7)
+    c.edge("a child reaches the end of the file", with_u16(nine, of(5, SIZE), 4), 7)
+    c.edge("sizes moved from a child to the next", plus(plus(nine, of(1, SIZE), -1), of(4, SIZE), 1), 7)
+    c.edge("sizes moved from a child to the one before", plus(plus(nine, of(1, SIZE), 1), of(4, SIZE), -1), 7)
+    c.edge("child counts moved from a parent to its child",
+           plus(plus(nine, of(0, CHILDREN), -1), of(1, CHILDREN), 1), 7)
+    taken = plus(plus(plus(nine, of(0, CHILDREN), -1), of(1, CHILDREN), 1), of(1, SIZE), 4)
+    c.edge("a child with its sizes moved too: another good tree", taken, "0/9")
+    c.edge("the last record counts a child past the end",
+           plus(plus(tree_file(Node(SEQUENCE, identifier(), Node(ARRAY))), of(2, CHILDREN), 1), of(2, SIZE), 1), 7)
+    nested = plus(tree_file(Node(SEQUENCE, void(void(identifier())))), of(1, SIZE), -1)
+    c.edge("a record counted by its parent and again by the root", plus(nested, of(0, CHILDREN), 1), 7)
+    swallow = plus(plus(tree_file(Node(SEQUENCE, identifier(), identifier())), of(0, CHILDREN), -1), of(1, SIZE), 1)
+    c.edge("a leaf's size takes in the record after it", swallow, 7)
+    two_roots = with_u16(GOOD + GOOD[8:], COUNT, 2)
+    c.edge("two roots", two_roots, 7)
+    c.edge("two roots, the first of size 2", with_u16(two_roots, of(0, SIZE), 2), 7)
+    c.edge("a root of size N - 1, a record left over",
+           with_u16(tree_file(void(identifier())) + GOOD[8:], COUNT, 3), 7)
+
+
+EXPRESSIONS_BY_HAND = {1, 2, 3, 4, 5, 6, 7, 10, 12, 13, 14, 15, 16, 17, 18}
+
+
+def standing(c):
+    """Each kind in each place where a record can stand."""
+    one, method = identifier(), Node(ELEMENT, sub=1)
+    for place, build, also in (
+            ("the root", lambda x: x, None),
+            ("in an array", lambda x: Node(ARRAY, one, x), {8, 9}),
+            ("in a spread", lambda x: Node(ARRAY, Node(SPREAD, x)), None),
+            ("in a template", lambda x: Node(TEMPLATE, one, x), None),
+            ("in a sequence", lambda x: Node(SEQUENCE, x, one), None),
+            ("under void", void, None),
+            ("under typeof", lambda x: Node(UNARY, x, sub=3), None),
+            ("left in a comparison", lambda x: Node(BINARY, x, one, sub=1), None),
+            ("right in an addition", lambda x: Node(BINARY, one, x, sub=2), None),
+            ("as callee of a call", lambda x: Node(CALL, x, one), None),
+            ("as callee of a new", lambda x: Node(NEW, x), None),
+            ("as first argument of a call", lambda x: Node(CALL, one, x, one), {9}),
+            ("as last argument of a new", lambda x: Node(NEW, one, one, x), {9}),
+            ("as a property's only child", lambda x: Node(OBJECT, Node(PROPERTY, x)), None),
+            ("as a property's key", lambda x: Node(OBJECT, Node(PROPERTY, x, one, sub=1)), None),
+            ("as a property's value", lambda x: Node(OBJECT, Node(PROPERTY, one, x, sub=1)), None),
+            ("as a class's heritage", lambda x: Node(CLASS, x, method, sub=2), None),
+            ("as an element's key", lambda x: Node(CLASS, Node(ELEMENT, x, sub=17)), None),
+            ("as an element's value", lambda x: Node(CLASS, Node(ELEMENT, one, x, sub=82)), None)):
+        for kind in range(1, 23):
+            root = build(sample(kind))
+            stands = kind in EXPRESSIONS_BY_HAND or kind in (also or ())
+            c.edge(f"kind {kind} {place}", tree_file(root),
+                   6 if kind >= 20 else accepted_as(kind, root) if stands else 7)
+    for place, build, only in (
+            ("in an object", lambda x: Node(OBJECT, x), {9, 11}),
+            ("in an object after a spread", lambda x: Node(OBJECT, Node(SPREAD, one), x), {9, 11}),
+            ("first in a class", lambda x: Node(CLASS, x, method), {19}),
+            ("in a class after an element", lambda x: Node(CLASS, method, x), {19}),
+            ("in a class after its heritage", lambda x: Node(CLASS, one, x, sub=2), {19})):
+        for kind in range(1, 23):
+            root = build(sample(kind))
+            c.edge(f"kind {kind} {place}", tree_file(root),
+                   6 if kind >= 20 else accepted_as(kind, root) if kind in only else 7)
+
+
+def depths(c):
+    for depth in (63, 64):
+        c.edge(f"depth {depth}", tree_file(chain(depth)), f"0/{depth}")
+    c.edge("depth 65", tree_file(chain(65)), 8, "0/65")
+    for depth in (66, 67, 130):
+        c.edge(f"depth {depth}", tree_file(chain(depth)), 8)
+
+    def spread(x):
+        return Node(ARRAY, Node(SPREAD, x))
+
+    def value(x):
+        return Node(OBJECT, Node(PROPERTY, x))
+
+    def key(x):
+        return Node(CLASS, Node(ELEMENT, x, sub=17))
+
+    for name, wrap in (("spreads", spread), ("properties", value), ("elements", key)):
+        c.edge(f"depth 63 over {name}", tree_file(chain(32, wrap)), "0/63")
+        c.edge(f"depth 64 over {name}", tree_file(chain(32, wrap, lambda: Node(ARRAY, Node(ELISION)))), "0/64")
+        c.edge(f"depth 65 over {name}", tree_file(chain(33, wrap)), 8, "0/65")
+        c.edge(f"depth 66 over {name}", tree_file(chain(33, wrap, lambda: Node(ARRAY, Node(ELISION)))), 8)
+    one = identifier()
+    for name, wrap in (("callees", lambda x: Node(CALL, x, one)), ("arguments", lambda x: Node(CALL, one, x)),
+                       ("left sides", lambda x: Node(BINARY, x, one, sub=2)),
+                       ("heritages", lambda x: Node(CLASS, x, Node(ELEMENT, sub=1), sub=2))):
+        c.edge(f"depth 64 over {name}", tree_file(chain(64, wrap)), "0/127")
+        c.edge(f"depth 65 over {name}", tree_file(chain(65, wrap)), 8, "0/129")
+        c.edge(f"depth 66 over {name}", tree_file(chain(66, wrap)), 8)
+    for name, root in (("first", lambda d: Node(SEQUENCE, chain(d), one, one)),
+                       ("second", lambda d: Node(SEQUENCE, one, chain(d), one)),
+                       ("last", lambda d: Node(SEQUENCE, one, one, chain(d)))):
+        c.edge(f"depth 64, the deep child {name}", tree_file(root(63)), "0/66")
+        c.edge(f"depth 65, the deep child {name}", tree_file(root(64)), 8, "0/67")
+        c.edge(f"depth 66, the deep child {name}", tree_file(root(65)), 8)
+    c.edge("depth 41 twice",
+           tree_file(Node(SEQUENCE, chain(40), chain(40))), "0/81")
+
+
+def faulty(faults):
+    """A file with each of the faults, named by their numbers."""
+    data = tree_file(chain(66 if 8 in faults else 3))
+    last = u16(data, COUNT) - 1
+    if 7 in faults:
+        data = plus(data, of(0, SIZE), 1)
+    if 6 in faults:
+        data = with_byte(with_byte(data, of(1, KIND), LOGICAL), of(1, SUB), 0)
+    if 5 in faults:
+        data = with_byte(data, of(last, ZERO), 1)
+    if 4 in faults:
+        data = data + b"\0"
+    if 3 in faults:
+        data = with_byte(data, SETTINGS, 8)
+    if 2 in faults:
+        data = with_u16(data, VERSION, 2)
+    if 1 in faults:
+        data = with_byte(data, 0, 0)
+    return data
+
+
+def several_faults(c):
+    for bits in range(1, 128):
+        faults = [number for number in range(1, 8) if bits >> number - 1 & 1]
+        c.edge(f"faults {faults}", faulty(faults), min(faults))
+    for number in range(1, 8):
+        c.edge(f"faults [{number}, 8]", faulty([number, 8]), number)
+    c.edge("faults [8]", faulty([8]), 8)
+    c.edge("version wrong and no record", with_u16(GOOD[:8], VERSION, 2), 2)
+    c.edge("settings wrong and no record", with_byte(GOOD[:8], SETTINGS, 8), 3)
+    c.edge("version wrong, cut after 7 bytes", with_u16(GOOD, VERSION, 2)[:7], 1)
+    five = tree_file(Node(ARRAY, *[identifier() for _ in range(4)]))
+    for i in (0, 2, 4):
+        for j in (0, 2, 4):
+            field = with_byte(five, of(i, ZERO), 1)
+            logical = with_byte(five, of(i, KIND), LOGICAL)
+            c.edge(f"5 at record {i}, 6 at record {j}", with_byte(field, of(j, KIND), LOGICAL), 5)
+            c.edge(f"5 at record {i}, 7 at record {j}", plus(field, of(j, SIZE), 1), 5)
+            c.edge(f"6 at record {i}, 7 at record {j}", plus(logical, of(j, SIZE), 1), 6)
+    for kind in (LOGICAL, CONDITIONAL, ASSIGNMENT):
+        c.edge(f"kind {kind} with three children", tree_file(Node(kind, *[identifier()] * 3)), 6)
+        c.edge(f"kind {kind} at depth 70", tree_file(chain(70, inner=lambda k=kind: Node(k))), 6)
+    for depth in (65, 66):
+        c.edge(f"an elision under void at depth {depth}",
+               tree_file(chain(depth, inner=lambda: Node(ELISION))), 7)
+    c.edge("a deep child, then an elision", tree_file(Node(SEQUENCE, chain(70), Node(ELISION))), 7)
+    c.edge("an elision, then a deep child", tree_file(Node(SEQUENCE, Node(ELISION), chain(70))), 7)
+    c.edge("depth 65, settings 7", tree_file(chain(65), settings=7), 8, "7/65")
+
+
+def changed_bytes(c):
+    """Two good files with each byte of the header, and each before the text, one more and one less."""
+    for name in ("columns", "class"):
+        data = EXAMPLES[name]
+        for at, byte in enumerate(data):
+            for change in (1, -1) if at % 16 >= 8 or at < 8 else ():
+                c.add(f"{name}.uxt, byte {at} {change:+d}", with_byte(data, at, (byte + change) % 256))
+
+
+def all_cases():
+    c = Cases()
+    for group in (lengths, header, counts, record_limits, kinds, accepted, facts, subs, zero_byte,
+                  child_counts, shapes, standing, depths, several_faults, changed_bytes):
+        group(c)
+    return c.cases
+
+
+# ---- The example files
+
+
+def columns():
+    """[1, a(), ...b]; the array, the call and the spread are flagged."""
+    return Node(ARRAY,
+                Node(OTHER_LEAF, facts=10, text=1, place=1),
+                Node(CALL, Node(IDENTIFIER, text=2, place=4), facts=1, place=4),
+                Node(SPREAD, Node(IDENTIFIER, text=3, place=12), facts=1, place=9),
+                facts=1, place=0)
+
+
+def class_with_elements():
+    """class extends b { [k()]() {} static p = 1; static {} }; k() and the class are flagged."""
+    key = Node(CALL, Node(IDENTIFIER, text=2, place=19), facts=1, place=19)
+    value = Node(OTHER_LEAF, facts=10, text=3, place=40)
+    return Node(CLASS,
+                Node(IDENTIFIER, text=1, place=14),
+                Node(ELEMENT, key, sub=1 + 16, place=18),
+                Node(ELEMENT, value, sub=2 + 8 + 64, place=29),
+                Node(ELEMENT, sub=4, place=43),
+                facts=1, sub=2, place=0)
+
+
+def logical():
+    """a && b"""
+    return Node(LOGICAL, Node(IDENTIFIER, text=1, place=0), Node(IDENTIFIER, text=2, place=5))
+
+
+EXAMPLES = {
+    "broken": plus(tree_file(columns()), of(2, SIZE), 1),
+    "class": tree_file(class_with_elements(), settings=1),
+    "columns": tree_file(columns()),
+    "logical": tree_file(logical()),
+}
+
+
+def verdict(data):
+    read = answer(data, REDUCE)
+    if isinstance(read, int):
+        return f"refused {read}"
+    return "accepted settings {} records {}".format(*read.split("/"))
+
+
+# ---- The modes
+
+
+def write_cases(out):
+    for _, data, _, _ in all_cases():
+        out.write(len(data).to_bytes(2, "little") + data)
+
+
+def main(words):
+    sys.setrecursionlimit(10_000)  # the deepest case has 3,999 levels
+    out = sys.stdout.buffer
+    if words == ["cases"]:
+        write_cases(out)
+    elif words == ["expected"]:
+        for _, _, reduce, list_effects in all_cases():
+            print(reduce, list_effects)
+    elif words == ["names"]:
+        for name, _, _, _ in all_cases():
+            print(name)
+    elif len(words) == 2 and words[0] == "example" and words[1] in EXAMPLES:
+        out.write(EXAMPLES[words[1]])
+    elif words == ["examples-expected"]:
+        for name, data in EXAMPLES.items():
+            print(f"{name}.uxt {verdict(data)}")
+    else:
+        sys.exit(f"usage: edges.py cases | expected | names | example {'|'.join(EXAMPLES)} | examples-expected")
+
+
+if __name__ == "__main__":
+    main(sys.argv[1:])
