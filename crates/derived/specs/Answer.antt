@@ -1,9 +1,9 @@
 -- The Derived question: its answer, and the answer's numbers.
-use mathlib.Core.Path.{_≡_, refl, sym, ap, _∙_}
+use mathlib.Core.Path.{_≡_, refl}
 use mathlib.Core.Bool.{Bool, true, false, cond, _&&_}
 use mathlib.Core.List.{List, [], _∷_}
 use Prim.Native.Nat.{ℕ, zero, suc}
-use Rattle.stated.specs.Stated.{Stated, refused, answered}
+use Rattle.stated.specs.Stated.{Stated, refused, answered, injective-by}
 use Rattle.derived.specs.Bytes.{anyOver}
 use Rattle.derived.specs.Scopes.{thisScopeIsConstructor}
 use Rattle.derived.specs.Ancestors.{constructorClassHasHeritage}
@@ -41,7 +41,7 @@ answerOf s = from (s .number) (s .values)
 
 pub stated-injective : (a b : Answer) → stated a ≡ stated b → a ≡ b
 unfolding stated answerOf
-stated-injective a b e = sym (read a) ∙ ap answerOf e ∙ read b
+stated-injective = injective-by stated answerOf read
   where
     read : (a : Answer) → answerOf (stated a) ≡ a
     read Yes = refl

@@ -34,9 +34,13 @@ fn check_file(input: &[u8], at: usize) -> usize
     }
     let start = at + 2;
     let end = start + size;
-    print_answer(file::check(&input[start..end], 2000, 64));
+    print_answer(file::check(&input[start..end], file::REDUCE_RECORDS, file::REDUCE_DEPTH));
     io::write_all(STDOUT_FILENO, b" ");
-    print_answer(file::check(&input[start..end], 3999, 65));
+    print_answer(file::check(
+        &input[start..end],
+        file::LIST_EFFECTS_RECORDS,
+        file::LIST_EFFECTS_DEPTH,
+    ));
     io::write_all(STDOUT_FILENO, b"\n");
     end
 }

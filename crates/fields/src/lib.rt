@@ -1,4 +1,6 @@
-// The fields of record i of a tree file.
+// The fields of record i of a tree file, and the numbers of the kinds.
+pub mod kind;
+
 ghost use mathlib.Core.Path.{_≡_};
 ghost use Prim.Native.Nat.{_+_, _*_, _<_, _≤_};
 ghost use lib.ListN.{length};
@@ -44,4 +46,11 @@ pub fn subtree_at(src: &[u8], i: usize) -> usize
     ensures { λ r. ⌜ (r ≡ subtreeAt (now (src .entry)) i) × (r < 65536) ⌝ }
 {
     le::get16(src, 8 + 16 * i + 6)
+}
+
+pub fn place_at(src: &[u8], i: usize) -> usize
+    requires { ⌜ start (i + 1) ≤ length (now src) ⌝ }
+    ensures { λ r. ⌜ (r ≡ headAt (now (src .entry)) i .place) × (r < 4294967296) ⌝ }
+{
+    le::get32(src, 8 + 16 * i + 12)
 }

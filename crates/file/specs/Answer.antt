@@ -1,8 +1,8 @@
 -- What the check answers: document 01's number and values for every case.
-use mathlib.Core.Path.{_≡_, refl, sym, ap, _∙_}
+use mathlib.Core.Path.{_≡_, refl}
 use mathlib.Core.List.{List, [], _∷_}
 use Prim.Native.Nat.{ℕ, zero, suc}
-use Rattle.stated.specs.Stated.{Stated, refused, answered}
+use Rattle.stated.specs.Stated.{Stated, refused, answered, injective-by}
 use Rattle.tree.specs.Fields.{settingsOf, countOf}
 use Rattle.tree.specs.Refusal.{Limits, refusal}
 use Rattle.file.specs.declared.Checked.{Checked}
@@ -13,6 +13,7 @@ abbrev pub stated : Checked → Stated
 stated (Refused n) = refused n
 stated (Accepted settings count) = answered (settings ∷ count ∷ [])
 
+-- The limits that the check is handed.
 abbrev pub limitsOf : ℕ → ℕ → Limits
 limitsOf records depth = record { records = records; depth = depth }
 
@@ -21,6 +22,7 @@ abbrev pub statedOf : ℕ → List ℕ → Stated
 statedOf zero s = answered (settingsOf s ∷ countOf s ∷ [])
 statedOf (suc k) s = refused (suc k)
 
+-- What the check states of a file: the refusal's number, or the values of a file that none applies to.
 unfoldable pub verdict : Limits → List ℕ → Stated
 verdict limits s = statedOf (refusal limits s) s
 
@@ -36,7 +38,7 @@ checkedOf s = from (s .number) (s .values)
 
 pub stated-injective : (a b : Checked) → stated a ≡ stated b → a ≡ b
 unfolding checkedOf
-stated-injective a b e = sym (read a) ∙ ap checkedOf e ∙ read b
+stated-injective = injective-by stated checkedOf read
   where
     read : (a : Checked) → checkedOf (stated a) ≡ a
     read (Refused n) = refl

@@ -5,21 +5,10 @@ use mathlib.Core.List.{List}
 use Prim.Native.Nat.{ℕ, suc, _+_, _-_, _<_, _≤_, max}
 use native.Mathlib.Omega.{arith}
 use lib.Dec.{leb}
-use lib.ListN.{length}
 use borrow.Author.Tests.{le-leb, lt-leb, leb-true, leb-false}
-use Rattle.tree.specs.Tree.{Head, Forest, nil, node, records, levels}
-use Rattle.tree.specs.Fields.{start, subtreeAt}
-use Rattle.tree.specs.Stands.{Stands}
-
--- A list of trees stands from record `at` on, in `size` records.
-pub record Holds (s : List ℕ) (at size : ℕ) (f : Forest) : Type 0 where
-  pub stands : Stands s at f
-  pub sized : size ≡ records f
-
-pub record Held (s : List ℕ) (at size : ℕ) : Type 0 where
-  pub forest : Forest
-  pub holds : Holds s at size forest
-  pub inside : start (at + size) ≤ length s
+use Rattle.tree.specs.Tree.{Forest, nil, node, levels}
+use Rattle.tree.specs.Fields.{subtreeAt}
+use Rattle.tree.specs.Walk.{Holds, Held, first-of, held-within, held-after}
 
 -- r says whether the list that stands there has `depth` levels at most.
 pub record Low (s : List ℕ) (at size depth : ℕ) (r : Bool) : Type 0 where
@@ -35,52 +24,6 @@ pub walk-start : {s : List ℕ} {at size depth : ℕ} → Held s at size → Wal
 walk-start {s} {at} {size} {depth} h =
     let e : at + size - at ≡ size = omega arith in
     record { inside = omega arith; held = rw e h; whole = λ r l. rw e at l }
-
--- The first tree of a list that is not empty: its children, and the trees after it.
-record First (s : List ℕ) (p size : ℕ) (h : Head) (cs rest : Forest) : Type 0 where
-  children : Holds s (p + 1) (subtreeAt s p - 1) cs
-  after : Holds s (p + subtreeAt s p) (size - subtreeAt s p) rest
-  some : 1 ≤ subtreeAt s p
-  within : subtreeAt s p ≤ size
-
-first-of : {s : List ℕ} {p size : ℕ} (h : Head) (cs rest : Forest) → Holds s p size (node h cs rest) → First s p size h cs rest
-first-of {s} {p} {size} h cs rest d =
-    let m : subtreeAt s p ≡ suc (records cs) = d .stands .2 in
-    record {
-      children = record { stands = d .stands .3; sized = omega (arith, m) };
-      after = record { stands = rw m (d .stands .4); sized = omega (arith, m, d .sized) };
-      some = omega (arith, m);
-      within = omega (arith, m, d .sized);
-    }
-
-module _ {s : List ℕ} {p size : ℕ} (h : Held s p size) (l : 0 < size) where
-  pub held-some : 1 ≤ subtreeAt s p
-  held-some = go (h .forest) (h .holds)
-    where
-      go : (f : Forest) → Holds s p size f → 1 ≤ subtreeAt s p
-      go nil d = absurd (omega (arith, d .sized))
-      go (node k cs rest) d = first-of k cs rest d .some
-
-  pub held-within : subtreeAt s p ≤ size
-  held-within = go (h .forest) (h .holds)
-    where
-      go : (f : Forest) → Holds s p size f → subtreeAt s p ≤ size
-      go nil d = absurd (omega (arith, d .sized))
-      go (node k cs rest) d = first-of k cs rest d .within
-
-  pub held-children : Held s (p + 1) (subtreeAt s p - 1)
-  held-children = go (h .forest) (h .holds)
-    where
-      go : (f : Forest) → Holds s p size f → Held s (p + 1) (subtreeAt s p - 1)
-      go nil d = absurd (omega (arith, d .sized))
-      go (node k cs rest) d = let a = first-of k cs rest d in record { forest = cs; holds = a .children; inside = omega (arith, a .some, a .within, h .inside) }
-
-  held-after : Held s (p + subtreeAt s p) (size - subtreeAt s p)
-  held-after = go (h .forest) (h .holds)
-    where
-      go : (f : Forest) → Holds s p size f → Held s (p + subtreeAt s p) (size - subtreeAt s p)
-      go nil d = absurd (omega (arith, d .sized))
-      go (node k cs rest) d = let a = first-of k cs rest d in record { forest = rest; holds = a .after; inside = omega (arith, a .within, h .inside) }
 
 leb-iff : (a b c d : ℕ) → (a ≤ b → c ≤ d) → (b < a → d < c) → leb a b ≡ leb c d
 leb-iff a b c d f g = go (leb a b) refl

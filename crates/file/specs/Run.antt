@@ -13,7 +13,8 @@ use Rattle.tree.specs.Fields.{settingsOf, countOf, start, headAt}
 use Rattle.tree.specs.Refusal.{Limits, markOk, versionOk, settingsOk, countOk, recordsOk, allIncluded, shapeOk, treeOf, depthOk, refusal}
 use Rattle.tree.specs.Accepted.{Counted, counted-parts, Rooted, rooted}
 use Rattle.file.specs.Answer.{statedOf, verdict}
-use Rattle.file.specs.Depth.{Held, Holds, Low}
+use Rattle.tree.specs.Walk.{Holds, Held}
+use Rattle.file.specs.Depth.{Low}
 
 stated-as : (limits : Limits) (s : List ℕ) (k : ℕ) → refusal limits s ≡ k → statedOf k s ≡ verdict limits s
 unfolding verdict

@@ -1,6 +1,6 @@
 -- The steps of the record check and of the shape check, over the values that the code read: k is the kind of the head h.
 use mathlib.Core.Path.{_≡_, refl, sym, ap, _∙_}
-use mathlib.Core.Bool.{Bool, true, false, _&&_, _||_}
+use mathlib.Core.Bool.{Bool, true, false, _&&_, _||_, or-false}
 use mathlib.Core.Logic.{⊎-elim}
 use mathlib.Core.List.{List}
 use Prim.Native.Nat.{ℕ, zero, suc, _+_, _-_, _<_, _≤_}
@@ -9,7 +9,7 @@ use native.Mathlib.Omega.{arith}
 use lib.Dec.{eqb, leb}
 use borrow.Author.Tests.{le-leb, lt-leb, eq-eqb, ne-eqb}
 use Rattle.tree.specs.Tree.{Head}
-use Rattle.tree.specs.Below.{allBelow, and-fails, or-false}
+use Rattle.tree.specs.Below.{allBelow, and-fails}
 use Rattle.tree.specs.Record.{factsOk, subOk, recordOk}
 use Rattle.tree.specs.Children.{childCountOk, firstIsExpression, mayStand}
 use Rattle.tree.specs.Fields.{countOf, headAt, childrenAt, subtreeAt}

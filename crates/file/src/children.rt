@@ -1,4 +1,5 @@
 // Refusal 7: child counts, subtree sizes, and which kinds may stand where.
+use fields::kind;
 ghost use mathlib.Core.Path.{_≡_};
 ghost use mathlib.Core.Bool.{true, false, _||_};
 ghost use Prim.Native.Nat.{_+_, _<_, _≤_};
@@ -12,22 +13,22 @@ ghost use Rattle.tree.specs.Refusal.{childrenEnd, shapeAt, shapeOk};
 fn is_expression(kind: usize) -> bool
     ensures { λ r. ⌜ r ≡ isExpression kind ⌝ }
 {
-    if kind == 8 {
+    if kind == kind::ELISION {
         return false;
     }
-    if kind == 9 {
+    if kind == kind::SPREAD {
         return false;
     }
-    if kind == 11 {
+    if kind == kind::PROPERTY {
         return false;
     }
-    kind != 19
+    kind != kind::ELEMENT
 }
 
 fn is_argument(kind: usize) -> bool
     ensures { λ r. ⌜ r ≡ (isExpression kind || eqb kind spread) ⌝ }
 {
-    if kind == 9 {
+    if kind == kind::SPREAD {
         return true;
     }
     is_expression(kind)
@@ -40,23 +41,23 @@ fn child_count_ok(src: &[u8], i: usize) -> bool
     let kind = fields::kind_at(src, i);
     let sub = fields::sub_at(src, i);
     let n = fields::children_at(src, i);
-    if kind <= 5 {
+    if kind <= kind::OTHER_LEAF {
         if kind == 0 {
             return true;
         }
         return n == 0;
     }
     match kind {
-        6 => n == 0,
-        8 => n == 0,
-        9 => n == 1,
-        14 => n == 1,
-        15 => n == 2,
-        16 => 1 <= n,
-        17 => 1 <= n,
-        11 => n == 1 + sub,
-        18 => sub / 2 % 2 <= n,
-        19 => n == sub / 16 % 2 + sub / 64 % 2,
+        kind::THIS => n == 0,
+        kind::ELISION => n == 0,
+        kind::SPREAD => n == 1,
+        kind::UNARY => n == 1,
+        kind::BINARY => n == 2,
+        kind::CALL => 1 <= n,
+        kind::NEW => 1 <= n,
+        kind::PROPERTY => n == 1 + sub,
+        kind::CLASS => sub / 2 % 2 <= n,
+        kind::ELEMENT => n == sub / 16 % 2 + sub / 64 % 2,
         _ => true,
     }
 }
@@ -69,9 +70,9 @@ fn first_is_expression(src: &[u8], i: usize) -> bool
     let kind = fields::kind_at(src, i);
     let sub = fields::sub_at(src, i);
     match kind {
-        16 => true,
-        17 => true,
-        18 => sub / 2 % 2 == 1,
+        kind::CALL => true,
+        kind::NEW => true,
+        kind::CLASS => sub / 2 % 2 == 1,
         _ => false,
     }
 }
@@ -84,21 +85,21 @@ fn may_stand_later(src: &[u8], i: usize, p: usize) -> bool
     let kind = fields::kind_at(src, i);
     let child = fields::kind_at(src, p);
     match kind {
-        7 => {
-            if child == 8 {
+        kind::ARRAY => {
+            if child == kind::ELISION {
                 return true;
             }
             is_argument(child)
         }
-        16 => is_argument(child),
-        17 => is_argument(child),
-        10 => {
-            if child == 9 {
+        kind::CALL => is_argument(child),
+        kind::NEW => is_argument(child),
+        kind::OBJECT => {
+            if child == kind::SPREAD {
                 return true;
             }
-            child == 11
+            child == kind::PROPERTY
         }
-        18 => child == 19,
+        kind::CLASS => child == kind::ELEMENT,
         _ => is_expression(child),
     }
 }

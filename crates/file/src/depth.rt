@@ -1,5 +1,6 @@
 // Refusal 8: the depth of a tree whose shape has passed.
-ghost use Rattle.file.specs.Depth.{Held, Low};
+ghost use Rattle.tree.specs.Walk.{Held};
+ghost use Rattle.file.specs.Depth.{Low};
 
 // Whether the trees that stand from record at on, in size records, have depth levels at most. It calls itself depth times at most:
 // siblings are walked by the loop.

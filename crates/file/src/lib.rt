@@ -9,6 +9,15 @@ ghost use Rattle.tree.specs.Refusal.{markOk, countOk};
 ghost use Rattle.tree.specs.Fields.{countOf};
 ghost use Rattle.file.specs.Answer.{limitsOf, stated, verdict};
 
+// How many records and levels an operation takes; as definitions: `reduceLimits` and `listEffectsLimits`.
+pub const REDUCE_RECORDS: usize = 2000;
+
+pub const REDUCE_DEPTH: usize = 64;
+
+pub const LIST_EFFECTS_RECORDS: usize = 3999;
+
+pub const LIST_EFFECTS_DEPTH: usize = 65;
+
 pub enum Checked {
     // The number of the first refusal that applies.
     Refused(u8),

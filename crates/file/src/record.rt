@@ -1,4 +1,5 @@
 // Refusals 5 and 6: what a record may say by itself.
+use fields::kind;
 ghost use mathlib.Core.Path.{_≡_};
 ghost use Prim.Native.Nat.{_+_, _<_, _≤_};
 ghost use lib.ListN.{length};
@@ -6,31 +7,32 @@ ghost use Rattle.tree.specs.Below.{allBelow};
 ghost use Rattle.tree.specs.Fields.{start, headAt};
 ghost use Rattle.tree.specs.Record.{allowedFacts, pairsOk, factsOk, elementSubOk, subOk, recordOk, included};
 
-// The permitted fact bits of each kind; 0 is no kind.
+// The permitted fact bits of each kind, by its number: 1 is the flag, 31 the flag and both pairs, 127 these with annotated and
+// listed, and 255 all.
 const ALLOWED_FACTS: [u8; 23] = [
-    31,
-    31,
-    31,
-    31,
-    31,
-    31,
-    31,
-    31,
-    0,
-    1,
-    31,
-    0,
-    31,
-    31,
-    31,
-    31,
-    255,
-    127,
-    31,
-    0,
-    31,
-    31,
-    31,
+    31, // 0 no kind
+    31, // 1 string literal
+    31, // 2 identifier
+    31, // 3 function
+    31, // 4 arrow
+    31, // 5 other leaf
+    31, // 6 this
+    31, // 7 array
+    0, // 8 elision
+    1, // 9 spread
+    31, // 10 object
+    0, // 11 property
+    31, // 12 template
+    31, // 13 sequence
+    31, // 14 unary
+    31, // 15 binary
+    255, // 16 call
+    127, // 17 new
+    31, // 18 class
+    0, // 19 class element
+    31, // 20 logical
+    31, // 21 conditional
+    31, // 22 assignment
 ];
 
 fn allowed_facts(kind: usize) -> u8
@@ -68,7 +70,7 @@ fn facts_ok(src: &[u8], i: usize) -> bool
         return false;
     }
     if pairs_ok(facts) {
-        if kind == 1 {
+        if kind == kind::LITERAL {
             return facts == 18;
         }
         return true;
@@ -114,21 +116,21 @@ fn sub_ok(src: &[u8], i: usize) -> bool
     let kind = fields::kind_at(src, i);
     let sub = fields::sub_at(src, i);
     match kind {
-        11 => sub <= 1,
-        14 => {
+        kind::PROPERTY => sub <= 1,
+        kind::UNARY => {
             if sub == 0 {
                 return false;
             }
             sub <= 4
         }
-        15 => {
+        kind::BINARY => {
             if sub == 0 {
                 return false;
             }
             sub <= 3
         }
-        18 => sub <= 3,
-        19 => element_sub_ok(sub),
+        kind::CLASS => sub <= 3,
+        kind::ELEMENT => element_sub_ok(sub),
         _ => sub == 0,
     }
 }
@@ -141,7 +143,7 @@ fn record_ok(src: &[u8], i: usize) -> bool
     if kind == 0 {
         return false;
     }
-    if 22 < kind {
+    if kind::ASSIGNMENT < kind {
         return false;
     }
     if facts_ok(src, i) {
@@ -158,10 +160,10 @@ fn included(src: &[u8], i: usize) -> bool
     ensures { λ r. ⌜ r ≡ included (headAt (now (src .entry)) i) ⌝ }
 {
     let kind = fields::kind_at(src, i);
-    if kind < 20 {
+    if kind < kind::LOGICAL {
         return true;
     }
-    if 22 < kind {
+    if kind::ASSIGNMENT < kind {
         return true;
     }
     false

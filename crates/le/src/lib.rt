@@ -2,7 +2,7 @@
 ghost use mathlib.Core.Path.{_≡_};
 ghost use Prim.Native.Nat.{_+_, _<_};
 ghost use lib.ListN.{length, getD};
-ghost use Rattle.le.specs.Le.{u16At};
+ghost use Rattle.le.specs.Le.{u16At, u32At};
 
 pub fn byte(s: &[u8], p: usize) -> usize
     requires { ⌜ p < length (now s) ⌝ }
@@ -16,4 +16,11 @@ pub fn get16(s: &[u8], p: usize) -> usize
     ensures { λ r. ⌜ (r ≡ u16At (now (s .entry)) p) × (r < 65536) ⌝ }
 {
     byte(s, p) + 256 * byte(s, p + 1)
+}
+
+pub fn get32(s: &[u8], p: usize) -> usize
+    requires { ⌜ p + 3 < length (now s) ⌝ }
+    ensures { λ r. ⌜ (r ≡ u32At (now (s .entry)) p) × (r < 4294967296) ⌝ }
+{
+    get16(s, p) + 65536 * get16(s, p + 2)
 }

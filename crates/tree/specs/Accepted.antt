@@ -1,5 +1,6 @@
--- What is accepted, both ways: an accepted file is the bytes of its tree, which is well-formed and within the limits, and the bytes of
--- each such tree are an accepted file of that tree. So a reader has to believe only the encoding (`File`).
+-- What is accepted, both ways: an accepted file is the bytes of its tree, which is permitted, and the bytes of each permitted tree are
+-- an accepted file of that tree. So of the encoding a reader has to believe only `File`: `Fields` and `decode` agree with it. What is
+-- well-formed (`Record`, `Children`) and the numbers and their order (`Refusal`) are 01's rules themselves.
 use mathlib.Core.Path.{_≡_, refl, sym, ap, ap₂, subst, _∙_}
 use mathlib.Core.Bool.{Bool, true, false, _&&_}
 use mathlib.Core.List.{List, [], _∷_, _++_, append-nil}
@@ -17,7 +18,7 @@ use Rattle.tree.specs.File.{preorder, le16, bytes, header, fileBytes, al
 use Rattle.tree.specs.Fields.{versionOf, settingsOf, countOf, start, headAt, subtreeAt}
 use Rattle.tree.specs.Refusal.{Limits, markOk, versionOk, settingsOk, countOk, recordsOk, allIncluded, shapeAt, shapeOk, decode, treeOf, depthOk, unless, refusal}
 use Rattle.tree.specs.Stands.{Stands, Tested, decoded-root, decode-stands, tested-of}
-use Rattle.tree.specs.Encoding.{Bytes, length-bytes, drop-next, drop-u16, bytes-stand, encodable-stand, stand-bytes}
+use Rattle.tree.specs.Encoding.{Bytes, length-bytes, drop-next, drop-u16, bytes-stand, encodable-stand, stand-bytes, file-bytes}
 use Rattle.tree.specs.Kind as kind
 
 -- No refusal: each test holds.
@@ -171,18 +172,23 @@ header-is s bs w v =
     ∙ ap (le16 1) (drop-next s 5 6 (omega (arith, m .long)) refl
     ∙ ap (λ (r : List ℕ). settingsOf s ∷ r) (drop-u16 s bs 6 8 (countOf s) (omega (arith, m .long)) refl refl)))))
 
+-- A tree that a file may hold, with settings and within limits: it is well-formed (refusals 5 to 7), its fields fit their bytes, and
+-- it has at most so many records (4) and levels (8).
+pub record Permitted (limits : Limits) (settings : ℕ) (t : Tree) : Type 0 where
+  pub settings-ok : settings < 8
+  pub well : wellFormed t ≡ true
+  pub fits : allEncodable (one t) ≡ true
+  pub few : size t ≤ limits .records
+  pub low : depth t ≤ limits .depth
+
 -- An accepted file, and its tree.
 pub record Accepted (limits : Limits) (s : List ℕ) : Type 0 where
   pub is-file : s ≡ fileBytes (settingsOf s) (treeOf s)
-  pub settings : settingsOf s < 8
-  pub well : wellFormed (treeOf s) ≡ true
-  pub fits : allEncodable (one (treeOf s)) ≡ true
+  pub permitted : Permitted limits (settingsOf s) (treeOf s)
   pub sized : size (treeOf s) ≡ countOf s
-  pub few : size (treeOf s) ≤ limits .records
-  pub low : depth (treeOf s) ≤ limits .depth
   pub stands : Stands s 0 (one (treeOf s))
 
--- What is accepted is the bytes of a well-formed tree within the limits.
+-- What is accepted is the bytes of a permitted tree.
 pub accepted : (limits : Limits) (s : List ℕ) → Bytes s → refusal limits s ≡ 0 → Accepted limits s
 unfolding settingsOk depthOk fileBytes
 accepted limits s bs e =
@@ -197,21 +203,23 @@ accepted limits s bs e =
           header-is s bs (p .mark) (p .version)
           ∙ ap (header (settingsOf s) (countOf s)) (all ∙ rw (end, append-nil))
           ∙ ap (λ (n : ℕ). header (settingsOf s) n (bytes (preorder (one (treeOf s))))) (sym (r .sized));
-      settings = ltb-true (settingsOf s) 8 (p .settings);
-      well = r .well;
-      fits = encodable-stand s bs (one (treeOf s)) 0 (r .stands);
+      permitted = record {
+        settings-ok = ltb-true (settingsOf s) 8 (p .settings);
+        well = r .well;
+        fits = encodable-stand s bs (one (treeOf s)) 0 (r .stands);
+        few = omega (arith, r .sized, k .few);
+        low = leb-true (depth (treeOf s)) (limits .depth) (p .low);
+      };
       sized = r .sized;
-      few = omega (arith, r .sized, k .few);
-      low = leb-true (depth (treeOf s)) (limits .depth) (p .low);
       stands = r .stands;
     }
 
--- A tree that a file may hold, within the limits.
-pub record Fits (limits : Limits) (settings : ℕ) (t : Tree) : Type 0 where
-  pub settings-ok : settings < 8
-  pub well : wellFormed t ≡ true
-  pub few : size t ≤ limits .records
-  pub low : depth t ≤ limits .depth
+-- The file of a tree: its bytes are bytes, it is accepted, and it holds that tree and those settings.
+pub record FileOf (limits : Limits) (settings : ℕ) (t : Tree) : Type 0 where
+  pub is-bytes : Bytes (fileBytes settings t)
+  pub accepted : refusal limits (fileBytes settings t) ≡ 0
+  pub settings-is : settingsOf (fileBytes settings t) ≡ settings
+  pub tree-is : treeOf (fileBytes settings t) ≡ t
 
 module _ (settings : ℕ) (t : Tree) where
   s : List ℕ
@@ -229,19 +237,17 @@ module _ (settings : ℕ) (t : Tree) where
   unfolding s fileBytes
   stands-is = stand-bytes s (one t) 0 [] (sym (append-nil (bytes (preorder (one t)))))
 
-  -- The file of a tree holds that tree.
-  pub tree-is : treeOf (fileBytes settings t) ≡ t
+  holds-tree : treeOf (fileBytes settings t) ≡ t
   unfolding treeOf s
-  tree-is =
+  holds-tree =
       let n = count-is in
       let kids : decode (countOf s) s 1 (countOf s) ≡ t .kids =
       decode-stands s (countOf s) 1 (countOf s) (t .kids) (stands-is .3) (omega (arith, n)) (omega (arith, n)) in
       λ i. record { head = stands-is .0 i; kids = kids i }
 
-  -- Its settings are those that it was written with.
-  pub settings-is : settingsOf (fileBytes settings t) ≡ settings
+  holds-settings : settingsOf (fileBytes settings t) ≡ settings
   unfolding fileBytes
-  settings-is = refl
+  holds-settings = refl
 
   mark-is : markOk s ≡ true
   unfolding s markOk fileBytes
@@ -264,7 +270,7 @@ module _ (settings : ℕ) (t : Tree) where
 
   low-is : (maxDepth : ℕ) → depth t ≤ maxDepth → depthOk maxDepth s ≡ true
   unfolding depthOk s
-  low-is maxDepth l = rw tree-is (le-leb (depth t) maxDepth l)
+  low-is maxDepth l = rw holds-tree (le-leb (depth t) maxDepth l)
 
   module _ (well : wellFormed t ≡ true) where
     expression-is : kind.isExpression (t .head .kind) ≡ true
@@ -295,16 +301,24 @@ module _ (settings : ℕ) (t : Tree) where
         (subst (λ (x : Head). kind.isExpression (x .kind) ≡ true) (sym (stands-is .0)) expression-is))
         (all-of (shapeAt s (countOf s)) (countOf s) (λ i l. tested i l .shape))
 
-  -- The bytes of a well-formed tree within the limits are accepted.
-  pub accepts : (limits : Limits) → Fits limits settings t → refusal limits (fileBytes settings t) ≡ 0
-  unfolding s
-  accepts limits f = unrefused limits s (record {
+  accepts : (limits : Limits) → Permitted limits settings t → refusal limits s ≡ 0
+  accepts limits p = unrefused limits s (record {
     mark = mark-is;
     version = version-is;
-    settings = settings-ok-is (f .settings-ok);
-    counted = counted-is (limits .records) (f .few);
-    recorded = records-are (f .well);
-    is-included = included-are (f .well);
-    shape = shape-is (f .well);
-    low = low-is (limits .depth) (f .low);
+    settings = settings-ok-is (p .settings-ok);
+    counted = counted-is (limits .records) (p .few);
+    recorded = records-are (p .well);
+    is-included = included-are (p .well);
+    shape = shape-is (p .well);
+    low = low-is (limits .depth) (p .low);
   })
+
+  -- Each permitted tree has a file, if the limits are ones that a count of two bytes can reach.
+  pub file-of : (limits : Limits) → limits .records < 65536 → Permitted limits settings t → FileOf limits settings t
+  unfolding s
+  file-of limits l p = record {
+    is-bytes = file-bytes settings t (omega (arith, p .settings-ok)) (p .fits) (omega (arith, p .few));
+    accepted = accepts limits p;
+    settings-is = holds-settings;
+    tree-is = holds-tree;
+  }

@@ -46,14 +46,15 @@ abbrev pub childrenStand : Head → Bool → Forest → Bool
 childrenStand h first nil = true
 childrenStand h first (node c cs rest) = mayStand h first (c .kind) && childrenStand h false rest
 
--- A node that is none of refusals 5, 6 and 7 by itself.
+-- A node that by itself passes the tests of 5, 6 and 7.
 unfoldable pub nodeOk : Head → Forest → Bool
 nodeOk h cs = recordOk h && (included h && (childCountOk h (count cs) && childrenStand h true cs))
 
+-- Each node of a list does, and each node under it.
 unfoldable pub formed : Forest → Bool
 formed nil = true
 formed (node h cs rest) = nodeOk h cs && (formed cs && formed rest)
 
--- A tree that is none of refusals 5, 6 and 7.
+-- A tree that passes the tests of 5, 6 and 7; "the root, is an expression".
 unfoldable pub wellFormed : Tree → Bool
 wellFormed t = kind.isExpression (t .head .kind) && (nodeOk (t .head) (t .kids) && formed (t .kids))

@@ -1,4 +1,5 @@
--- The bytes of a tree file: what an exporter writes, and all that a reader of this crate has to believe of the format.
+-- The bytes of a tree file: what an exporter writes. Of the encoding a reader has to believe only this: `Fields` and `decode`, which
+-- read it, are shown to agree with it (`Accepted`).
 use mathlib.Core.Bool.{Bool, true, _&&_}
 use mathlib.Core.List.{List, [], _∷_, _++_}
 use Prim.Native.Nat.{ℕ, suc, _/_, _%_, _^_}

@@ -63,6 +63,9 @@ element = 19
 abbrev pub logical : ℕ
 logical = 20
 
+abbrev pub conditional : ℕ
+conditional = 21
+
 abbrev pub assignment : ℕ
 assignment = 22
 

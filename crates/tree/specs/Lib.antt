@@ -9,3 +9,4 @@ pub mod Refusal
 pub mod Stands
 pub mod Encoding
 pub mod Accepted
+pub mod Walk

@@ -11,10 +11,18 @@ use Rattle.tree.specs.Children.{childCountOk, mayStand}
 use Rattle.tree.specs.Fields.{versionOf, settingsOf, countOf, headAt, childrenAt, subtreeAt}
 use Rattle.tree.specs.Kind as kind
 
--- How many records and levels are taken: 2,000 and 64 in Reduce, 3,999 and 65 in List effects.
+-- How many records and levels an operation takes.
 pub record Limits : Type 0 where
   pub records : ℕ
   pub depth : ℕ
+
+-- Reduce: "4 count not 1–2,000", "8 depth over 64 (root 1)"
+abbrev pub reduceLimits : Limits
+reduceLimits = record { records = 2000; depth = 64 }
+
+-- List effects: "1–8 likewise, but count to 3,999 and depth to 65"
+abbrev pub listEffectsLimits : Limits
+listEffectsLimits = record { records = 3999; depth = 65 }
 
 -- "1 under 8 bytes or mark wrong"
 unfoldable pub markOk : List ℕ → Bool
@@ -24,11 +32,11 @@ markOk s = leb 8 (length s) && (eqb (getD s 0 0) 85 && (eqb (getD s 1 0) 88 && e
 unfoldable pub versionOk : List ℕ → Bool
 versionOk s = eqb (versionOf s) 1
 
--- "3 setting bits 3–7"
+-- "3 setting bits 3–7": a byte is under 8 exactly if none of these is set, since bit 3 counts 8
 unfoldable pub settingsOk : List ℕ → Bool
 settingsOk s = ltb (settingsOf s) 8
 
--- "4 count not 1–2,000, or length not 8 + 16 × N"
+-- "4 count not 1–2,000, or length not 8 + 16 × N"; 2,000 is Reduce's limit
 unfoldable pub countOk : ℕ → List ℕ → Bool
 countOk maxRecords s = (leb 1 (countOf s) && leb (countOf s) maxRecords) && eqb (length s) (8 + 16 * countOf s)
 
@@ -71,7 +79,7 @@ decode (suc fuel) s p e =
 unfoldable pub treeOf : List ℕ → Tree
 treeOf s = record { head = headAt s 0; kids = decode (countOf s) s 1 (countOf s) }
 
--- "8 depth over 64 (root 1)"
+-- "8 depth over 64 (root 1)"; 64 is Reduce's limit
 unfoldable pub depthOk : ℕ → List ℕ → Bool
 depthOk maxDepth s = leb (depth (treeOf s)) maxDepth
 

@@ -1,5 +1,5 @@
-// Says whether Reduce would take the tree file on standard input, of which the first 32,009 bytes are read: one more than the longest
-// file that is taken.
+// Says whether Reduce would take the tree file on standard input.
+// The first 32,009 bytes are read: one more than the longest file that is taken.
 use file::Checked;
 use libc::STDIN_FILENO;
 use libc::STDOUT_FILENO;
@@ -7,7 +7,7 @@ use libc::STDOUT_FILENO;
 fn main() {
     let mut input = [0u8; 32009];
     let n = io::read_full(STDIN_FILENO, &mut input);
-    print_answer(file::check(&input[..n], 2000, 64));
+    print_answer(file::check(&input[..n], file::REDUCE_RECORDS, file::REDUCE_DEPTH));
 }
 
 fn print_answer(answer: Checked) {

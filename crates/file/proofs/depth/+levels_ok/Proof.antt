@@ -1,7 +1,8 @@
 -- Where a level fails or the walk ends, what it found of the trees that are left answers for all of them.
 use native.Mathlib.Omega.{arith}
 use borrow.Author.Tests.{not-true, not-false}
-use Rattle.file.specs.Depth.{Walked, held-some, held-within, held-children, walk-start, walk-done, walk-zero, walk-high, walk-on}
+use Rattle.tree.specs.Walk.{held-some, held-within, held-children}
+use Rattle.file.specs.Depth.{Walked, walk-start, walk-done, walk-zero, walk-high, walk-on}
 use Prim.Native.Nat.{ℕ, _-_, _<_}
 use borrow.Fn.Kinds.{In}
 use borrow.Fn.PlainCycle.{Measures, is, falls, and}

@@ -1,8 +1,8 @@
+use mathlib.Core.Bool.{and-true}
 use Prim.Native.Nat.{_/_, _%_}
 use lib.Dec.{eqb}
 use borrow.Author.Tests.{eq-eqb, ne-eqb, lt-leb, le-leb}
 use native.Mathlib.Omega.{arith}
-use Rattle.tree.specs.Below.{and-true}
 use Rattle.tree.specs.Record.{elementSubOk}
 use Rattle.file.proofs.record.element_sub_ok.Statement.{statement}
 use Rattle.file.proofs.record.element_sub_ok.Tie as tie
