@@ -1,0 +1,72 @@
+-- What a node's record says, and what that says of the node: each reading of 01 named once. Reducing, listing and the premise all
+-- read a node by these names.
+use mathlib.Core.Bool.{Bool, cond, not, _&&_, _||_}
+use mathlib.Core.List.{List}
+use Prim.Native.Nat.{_%_}
+use lib.Dec.{eqb}
+use Rattle.tree.specs.Tree.{Tree, trees, Paired, recur}
+use Rattle.tree.specs.Record.{bitSet, symbolPair, stringPair}
+use Rattle.rules.specs.Lists.{isEmpty, any, every, ofTwo}
+use Rattle.rules.specs.Settings.{Settings, annotations, treeShakeOnly}
+use Rattle.rules.specs.Handler.{isIdentifier, isFunction, isSpread, isAddition, firstIs}
+
+-- "bit 0 effect flag"
+unfoldable pub flagged : Tree → Bool
+flagged t = eqb (t .head .facts % 2) 1
+
+abbrev pub clear : Tree → Bool
+clear t = not (flagged t)
+
+-- "3–4 string (0 unknown, 1 no, 2 yes)"
+unfoldable pub stringFact : Tree → Bool
+stringFact t = eqb (stringPair (t .head .facts)) 2
+
+-- "An addition on the left is a string if its left or its right is; any other side by its string fact."
+unfoldable pub isStringRule : Tree → List (Paired Bool) → Bool
+isStringRule t sides =
+    cond (isAddition t) (ofTwo (λ l r. l .result || stringFact (r .tree)) (stringFact t) sides) (stringFact t)
+
+unfoldable pub isString : Tree → Bool
+isString t = recur isStringRule t
+
+-- "1–2 symbol", "'Possible symbol': not 1"
+unfoldable pub possibleSymbol : Tree → Bool
+possibleSymbol t = not (eqb (symbolPair (t .head .facts)) 1)
+
+-- "5 annotated, 6 listed, 7 summary free"
+unfoldable pub annotated : Tree → Bool
+annotated t = bitSet 5 (t .head .facts)
+
+-- (With the settings, since a list of names would be one of them.)
+unfoldable pub listed : Settings → Tree → Bool
+listed s t = bitSet 6 (t .head .facts)
+
+unfoldable pub summaryFree : Tree → Bool
+summaryFree t = bitSet 7 (t .head .facts)
+
+-- "pure means annotated with setting bit 0 on, or listed, or (call only, callee an identifier) summary free"
+unfoldable pub pureNew : Settings → Tree → Bool
+pureNew s t = (annotations s && annotated t) || listed s t
+
+unfoldable pub pureCall : Settings → Tree → Bool
+pureCall s t = pureNew s t || (firstIs isIdentifier t && summaryFree t)
+
+-- "An impure call is removable exactly if unflagged, and not if tree-shake-only is on and the callee is a function or arrow."
+unfoldable pub hasSideEffectsOrPreservedIife : Settings → Tree → Bool
+hasSideEffectsOrPreservedIife s t = flagged t || (treeShakeOnly s && firstIs isFunction t)
+
+-- "Typeof of an identifier reference"
+unfoldable pub ofIdentifier : Tree → Bool
+ofIdentifier t = firstIs isIdentifier t
+
+-- Of a template: "no expressions: removable. All possibly symbols and text 0: unchanged."
+unfoldable pub unchangedTemplate : Tree → Bool
+unchangedTemplate t =
+    not (isEmpty (trees (t .kids))) && (every possibleSymbol (trees (t .kids)) && eqb (t .head .text) 0)
+
+-- Of an object: "Only spreads" (or empty), and "none is flagged".
+unfoldable pub onlySpreads : Tree → Bool
+onlySpreads t = every isSpread (trees (t .kids))
+
+unfoldable pub flaggedChild : Tree → Bool
+flaggedChild t = any flagged (trees (t .kids))

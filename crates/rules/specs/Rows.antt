@@ -1,0 +1,116 @@
+-- 01's rows A to L over the definitions: one table, one proof; and the example of the two-column program. In the table f() and g()
+-- are flagged impure calls, and x is unflagged.
+use mathlib.Core.List.{List, [], _∷_, map}
+use mathlib.Core.Path.{_≡_, refl}
+use Prim.Native.Nat.{ℕ, _+_, _*_}
+use Rattle.tree.specs.Tree.{Tree, forest, size, records}
+use Rattle.tree.specs.Tree as tree
+use Rattle.tree.specs.Kind as kind
+use Rattle.rules.specs.Settings.{Settings}
+use Rattle.rules.specs.Settings
+use Rattle.rules.specs.Handler
+use Rattle.rules.specs.Facts
+use Rattle.rules.specs.Made
+use Rattle.rules.specs.Addition
+use Rattle.rules.specs.Class
+use Rattle.rules.specs.Reduce.{reduce}
+use Rattle.rules.specs.Reduce
+use Rattle.rules.specs.Effects.{effects, effectsOf}
+use Rattle.rules.specs.Effects
+
+abbrev settings : Settings
+settings = record { byte = 0 }
+
+-- A node of a kind, with facts, sub, text and place, over its children.
+abbrev node : ℕ → ℕ → ℕ → ℕ → ℕ → List Tree → Tree
+node kind facts sub text place ts =
+    record { head = record { kind = kind; facts = facts; sub = sub; reserved = 0; text = text; place = place }; kids = forest ts }
+
+-- An identifier that nothing is known of, and a call of one; a number; a spread of x.
+abbrev identifier : ℕ → Tree
+identifier place = node kind.identifier 0 0 7 place []
+
+abbrev call : ℕ → ℕ → Tree
+call facts place = node kind.call facts 0 0 place (identifier place ∷ [])
+
+abbrev number : ℕ → Tree
+number place = node kind.otherLeaf 10 0 9 place []
+
+abbrev spread : ℕ → ℕ → Tree
+spread facts place = node kind.spread facts 0 0 place (identifier (place + 3) ∷ [])
+
+pub record Row : Type 0 where
+  pub from : Tree
+  pub to : List Tree
+
+abbrev pub rows : List Row
+rows =
+    -- A `[]` removable
+    record { from = node kind.array 0 0 0 1 []; to = [] }
+    -- B `[f(), ...x]`, spread clear: `f()`
+    ∷ record { from = node kind.array 1 0 0 1 (call 1 2 ∷ spread 0 7 ∷ []); to = call 1 2 ∷ [] }
+    -- C `(f(), 1)`: a sequence of `f()` alone
+    ∷ record { from = node kind.sequence 1 0 0 1 (call 1 2 ∷ number 7 ∷ []); to = node kind.sequence 1 0 0 1 (call 1 2 ∷ []) ∷ [] }
+    -- D `typeof y`, y flagged: removable
+    ∷ record { from = node kind.unary 0 3 0 1 (node kind.identifier 1 0 7 8 [] ∷ []); to = [] }
+    -- E `{...x}`, spread flagged: unchanged
+    ∷ record { from = node kind.object 1 0 0 1 (spread 1 2 ∷ []); to = node kind.object 1 0 0 1 (spread 1 2 ∷ []) ∷ [] }
+    -- F `{...x, a: f()}`, spread clear: `({...x}), f()`
+    ∷ record {
+      from = node kind.object 1 0 0 1 (spread 0 2 ∷ node kind.property 0 0 0 8 (call 1 11 ∷ []) ∷ []);
+      to = node kind.sequence 1 0 0 1 (node kind.object 0 0 0 8 (spread 0 2 ∷ []) ∷ call 1 11 ∷ []) ∷ [];
+    }
+    -- G template of only s, unknown, text 0: unchanged
+    ∷ record { from = node kind.template 1 0 0 1 (identifier 3 ∷ []); to = node kind.template 1 0 0 1 (identifier 3 ∷ []) ∷ [] }
+    -- H text not 0, s unknown, f() no symbol: template of s, then `f()`
+    ∷ record {
+      from = node kind.template 1 0 9 1 (identifier 3 ∷ call 3 7 ∷ []);
+      to = node kind.sequence 1 0 0 1 (node kind.template 1 0 0 7 (identifier 3 ∷ []) ∷ call 3 7 ∷ []) ∷ [];
+    }
+    -- I `class {static p = 1}`: a sequence of 1
+    ∷ record {
+      from = node kind.class 0 0 0 1 (node kind.element 0 74 0 7 (number 18 ∷ []) ∷ []);
+      to = node kind.sequence 0 0 0 1 (number 18 ∷ []) ∷ [];
+    }
+    -- J `f() < g()`: `f(), g()`
+    ∷ record { from = node kind.binary 1 1 0 1 (call 1 1 ∷ call 1 7 ∷ []); to = node kind.sequence 1 0 0 1 (call 1 1 ∷ call 1 7 ∷ []) ∷ [] }
+    -- K `"a" + f()`, flagged, symbol unknown: `"" + f()`
+    ∷ record {
+      from = node kind.binary 1 2 0 1 (node kind.literal 18 0 8 1 [] ∷ call 1 7 ∷ []);
+      to = node kind.binary 1 2 0 1 (node kind.literal 18 0 0 1 [] ∷ call 1 7 ∷ []) ∷ [];
+    }
+    -- L `new x()`, unflagged, impure: kept
+    ∷ record { from = node kind.new 0 0 0 1 (identifier 5 ∷ []); to = node kind.new 0 0 0 1 (identifier 5 ∷ []) ∷ [] }
+    ∷ []
+
+pub rows-hold : map (λ r. reduce settings (r .from)) rows ≡ map (λ r. r .to) rows
+unfolding reduce tree.recur tree.each Settings.annotations Settings.treeShakeOnly Settings.derived Handler.handler
+    Handler.isKind Handler.isAddition Facts.flagged Facts.stringFact Facts.isStringRule Facts.isString Facts.possibleSymbol
+    Facts.annotated Facts.listed Facts.summaryFree Facts.pureNew Facts.pureCall Facts.hasSideEffectsOrPreservedIife
+    Facts.ofIdentifier Facts.unchangedTemplate Facts.onlySpreads Facts.flaggedChild Made.flagOf Made.makeSequence
+    Made.makeArray Made.makeObject Made.makeTemplate Made.emptyLiteral Made.withChildren Made.joinSequence
+    Addition.emptiedUnlessFlagged Addition.isDroppedRight Addition.foldSides Addition.foldRule
+    Addition.foldStringAdditionChain Class.decoratedClass Class.hasStaticValue Class.decoratedElement Class.indexSignature
+    Class.nonemptyStaticBlock Class.flaggedStaticValue Class.lastRule Class.lastExpressionInSequence Class.arrowHeritage
+    Class.keptClass Class.extracted Reduce.reduceRule
+rows-hold = refl
+
+-- `[1, a(), ...b]`, "array, call and spread flagged": `4/16/0` and `9/9/0` in both columns, "records 6 5".
+abbrev example : Tree
+example = node kind.array 1 0 0 0 (number 1 ∷ call 1 4 ∷ spread 1 9 ∷ [])
+
+abbrev column : List ℕ
+column = (4 * 512 + 16 * 2) ∷ (9 * 512 + 9 * 2) ∷ []
+
+pub record Columns : Type 0 where
+  pub before : effects settings example ≡ column
+  pub after : effectsOf settings (reduce settings example) ≡ column
+  pub recordsBefore : size example ≡ 6
+  pub recordsAfter : records (forest (reduce settings example)) ≡ 5
+
+pub columns : Columns
+unfolding reduce effects tree.recur tree.each Settings.annotations Settings.treeShakeOnly Handler.handler Handler.isKind
+    Facts.flagged Facts.possibleSymbol Facts.annotated Facts.listed Facts.summaryFree Facts.pureNew Facts.pureCall
+    Facts.hasSideEffectsOrPreservedIife Made.withChildren Class.hasStaticValue Class.nonemptyStaticBlock Reduce.reduceRule
+    Effects.itself Effects.evaluateRule Effects.evaluate
+columns = record { before = refl; after = refl; recordsBefore = refl; recordsAfter = refl }

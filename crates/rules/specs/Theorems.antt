@@ -1,0 +1,143 @@
+-- What is shown of reducing and listing, over all trees, facts and settings. A theorem assumes what it names, and no more.
+use mathlib.Core.Bool.{Bool, true, false, cond}
+use mathlib.Core.List.{List, [], _∷_, _++_}
+use mathlib.Core.Path.{_≡_, sym, _∙_, ap}
+use Prim.Native.Nat.{ℕ, suc, _*_, _-_, _≤_, _<_}
+use native.Mathlib.Nat.{le-trans}
+use native.Mathlib.Omega.{arith}
+use lib.ListN.{length}
+use Rattle.tree.specs.Tree.{Tree, trees, forest, one, records, levels, size, depth, All}
+use Rattle.tree.specs.Children.{wellFormed}
+use Rattle.tree.specs.File.{allEncodable}
+use Rattle.tree.specs.Refusal.{Limits, reduceLimits, listEffectsLimits}
+use Rattle.tree.specs.Accepted.{Permitted}
+use Rattle.rules.specs.Lists.{concatMap}
+use Rattle.rules.specs.Settings.{Settings, treeShakeOnly}
+use Rattle.rules.specs.Handler.{Handler, handler, isSpread, isFunction, firstIs}
+use Rattle.rules.specs.Facts.{flagged, possibleSymbol, ofIdentifier, pureNew, pureCall, hasSideEffectsOrPreservedIife, unchangedTemplate, onlySpreads, flaggedChild}
+use Rattle.rules.specs.Class.{keptClass}
+use Rattle.rules.specs.Reduce.{reduce}
+use Rattle.rules.specs.Effects.{effects, effectsOf}
+use Rattle.rules.specs.Reads.{reads, Premise}
+use Rattle.rules.specs.Proofs.Lists.{concatMap-map}
+use Rattle.rules.specs.Proofs.Facts.{preserved-iife}
+use Rattle.rules.specs.Proofs.Demand.{demand-3}
+use Rattle.rules.specs.Proofs.Accepted.{accepted, literals-clear}
+use Rattle.rules.specs.Proofs.Effects.{whole}
+use Rattle.rules.specs.Proofs.Scale.{byRecords, byLevels}
+use Rattle.rules.specs.Proofs.Bounds.{bounded}
+use Rattle.rules.specs.Proofs.Counts as counts
+use Rattle.rules.specs.Proofs.Kept as kept
+use Rattle.rules.specs.Proofs.Single as single
+use Rattle.rules.specs.Proofs.Unfold.{readIn}
+use Rattle.rules.specs.Proofs.Reads as proved
+
+-- What happens of a list of effects where `throws past e` says whether e throws after `past`: each effect up to the first that
+-- throws, with that one.
+abbrev pub happens : (List ℕ → ℕ → Bool) → List ℕ → List ℕ → List ℕ
+happens throws past [] = []
+happens throws past (e ∷ es) = e ∷ cond (throws past e) [] (happens throws (past ++ (e ∷ [])) es)
+
+-- What the limits of a tree make those of its answer.
+abbrev pub keptLimits : Limits → Limits
+keptLimits limits = record { records = 2 * limits .records - 1; depth = suc (limits .depth) }
+
+module _ (s : Settings) (t : Tree) where
+  -- Demand 3: of an accepted tree, if each clear flag that is read is true, what is kept has the tree's effects, in length and at
+  -- every entry; and a removable tree has none.
+  module _ (well-formed : wellFormed t ≡ true) (premise : Premise s t) where
+    pub same-effects : effectsOf s (reduce s t) ≡ effects s t
+    same-effects = demand-3 s t (literals-clear t (accepted t well-formed .0)) premise
+
+    pub kept-same-effects : (u : Tree) → reduce s t ≡ u ∷ [] → effects s u ≡ effects s t
+    kept-same-effects u e = sym (whole s u) ∙ ap (effectsOf s) (sym e) ∙ same-effects
+
+    pub removable-no-effects : reduce s t ≡ [] → effects s t ≡ []
+    removable-no-effects e = sym (ap (effectsOf s) (sym e) ∙ same-effects)
+
+    -- Whichever effect is the first that throws, the effects before it are the same in both.
+    pub same-until-throw : (throws : List ℕ → ℕ → Bool) → happens throws [] (effectsOf s (reduce s t)) ≡ happens throws [] (effects s t)
+    same-until-throw throws = ap (happens throws []) same-effects
+
+  -- Premise or not, accepted or not: at most 2 × N − 1 records, and "Result depth is at most one more".
+  pub at-most-twice : records (forest (reduce s t)) ≤ 2 * size t - 1
+  at-most-twice = le-trans (bounded byRecords s t) (omega arith)
+
+  pub one-deeper : levels (forest (reduce s t)) ≤ suc (depth t)
+  one-deeper = bounded byLevels s t
+
+  module _ (well-formed : wellFormed t ≡ true) where
+    -- At most one tree is kept of an accepted tree.
+    pub at-most-one : length (reduce s t) ≤ 1
+    at-most-one = single.at-most-one s t (accepted t well-formed)
+
+    -- What is kept is well-formed, and its fields fit their bytes if the tree's do.
+    pub kept-well-formed : All (λ u. wellFormed u ≡ true) (reduce s t)
+    kept-well-formed = kept.kept-well-formed s t well-formed
+
+    pub kept-encodable : allEncodable (one t) ≡ true → allEncodable (forest (reduce s t)) ≡ true
+    kept-encodable = kept.kept-encodable s t well-formed
+
+  -- The kept answer of a permitted tree is permitted within limits of 2 × N − 1 records and one level more, "header settings copied".
+  pub kept-permitted : (limits : Limits) → Permitted limits (s .byte) t → (u : Tree) → reduce s t ≡ u ∷ [] → Permitted (keptLimits limits) (s .byte) u
+  kept-permitted limits p u e =
+      let records-le = rw e at at-most-twice in
+      let levels-le = rw e at one-deeper in
+      record {
+        settings-ok = p .settings-ok;
+        well = (rw e at (kept-well-formed (p .well))) .0;
+        fits = rw e at (kept-encodable (p .well) (p .fits));
+        few = omega (arith, records-le, p .few);
+        low = omega (arith, levels-le, p .low);
+      }
+
+  -- So List effects accepts what Reduce keeps: 2,000 records and 64 levels become 3,999 and 65.
+  pub kept-within : Permitted reduceLimits (s .byte) t → (u : Tree) → reduce s t ≡ u ∷ [] → Permitted listEffectsLimits (s .byte) u
+  kept-within = kept-permitted reduceLimits
+
+  -- "10 under 2 × N entries lent": a list is always shorter.
+  pub few-effects : length (effects s t) < 2 * size t
+  few-effects = counts.few s t
+
+  -- The premise is no wider than 01's: each node that counts as read is clear.
+  pub reads-clear : All (λ n. flagged n ≡ false) (reads s t)
+  reads-clear = proved.reads-clear s t
+
+  -- And none is read at `this`, a typeof identifier, an impure new, an impure call that is kept (as tree-shake-only keeps one), a kept class, a
+  -- template that stays, an object of spreads that stays;
+  pub none-at-this : handler (t .head) ≡ Handler.this → reads s t ≡ []
+  none-at-this e = proved.reads-by s t Handler.this e
+
+  pub none-at-typeof-identifier : handler (t .head) ≡ Handler.typeof → ofIdentifier t ≡ true → reads s t ≡ []
+  none-at-typeof-identifier e h = proved.reads-by s t Handler.typeof e ∙ rw h
+
+  pub none-at-impure-new : handler (t .head) ≡ Handler.new → pureNew s t ≡ false → reads s t ≡ []
+  none-at-impure-new e h = proved.reads-by s t Handler.new e ∙ rw h
+
+  pub none-at-kept-call : handler (t .head) ≡ Handler.call → pureCall s t ≡ false → hasSideEffectsOrPreservedIife s t ≡ true → reads s t ≡ []
+  none-at-kept-call e h k = proved.reads-by s t Handler.call e ∙ rw (h, k)
+
+  pub none-at-tree-shake-only : handler (t .head) ≡ Handler.call → pureCall s t ≡ false → treeShakeOnly s ≡ true → firstIs isFunction t ≡ true → reads s t ≡ []
+  none-at-tree-shake-only e h o f = none-at-kept-call e h (preserved-iife s t o f)
+
+  pub none-at-kept-class : handler (t .head) ≡ Handler.class → keptClass t ≡ true → reads s t ≡ []
+  none-at-kept-class e h = proved.reads-by s t Handler.class e ∙ rw h
+
+  pub none-at-unchanged-template : handler (t .head) ≡ Handler.template → unchangedTemplate t ≡ true → reads s t ≡ []
+  none-at-unchanged-template e h = proved.reads-by s t Handler.template e ∙ rw h
+
+  pub none-at-kept-spreads : handler (t .head) ≡ Handler.object → onlySpreads t ≡ true → flaggedChild t ≡ true → reads s t ≡ []
+  none-at-kept-spreads e h k = proved.reads-by s t Handler.object e ∙ rw (h, k)
+
+  -- nor at what waits: of a template or an object that is taken apart, only what is read in its other children.
+  pub none-at-waiting-symbol : handler (t .head) ≡ Handler.template → unchangedTemplate t ≡ false
+      → reads s t ≡ concatMap (λ c. cond (possibleSymbol c) [] (reads s c)) (trees (t .kids))
+  none-at-waiting-symbol e h =
+      proved.reads-by s t Handler.template e
+      ∙ rw h (concatMap-map (λ c. cond (possibleSymbol (c .tree)) [] (c .result)) (readIn s) (trees (t .kids)))
+
+  pub none-at-waiting-spread : handler (t .head) ≡ Handler.object → onlySpreads t ≡ false
+      → reads s t ≡ concatMap (λ c. cond (isSpread c) [] (reads s c)) (trees (t .kids))
+  none-at-waiting-spread e h =
+      proved.reads-by s t Handler.object e
+      ∙ rw h (concatMap-map (λ c. cond (isSpread (c .tree)) [] (c .result)) (readIn s) (trees (t .kids)))

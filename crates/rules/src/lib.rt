@@ -1,0 +1,1 @@
+// What is reduced, what is an effect, and the theorem that only dead weight leaves: definitions and theorems, in specs/.
