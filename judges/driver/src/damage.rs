@@ -1,0 +1,272 @@
+//! Damaged copies of accepted files, each with the number that must refuse it.
+
+use port::{Limits, element, kind, sub};
+
+use crate::file;
+use crate::random::Random;
+use crate::trees;
+
+/// A file, what is lent, and the numbers that Reduce and List effects must answer (0: accepted).
+pub struct Damaged {
+    pub file: Vec<u8>,
+    pub output_room: usize,
+    pub entry_room: usize,
+    pub reduce: u8,
+    pub list: u8,
+    /// A record that has been damaged; the next damage falls on another.
+    touched: Option<usize>,
+}
+
+/// One damage or two; of two, the lower number must win, wherever in the file they stand.
+pub fn damaged(random: &mut Random, good: &[u8]) -> Damaged {
+    let mut numbers = vec![random.between(1, 10) as u8];
+    if random.chance(96) {
+        numbers.push(random.between(1, 10) as u8);
+    }
+    // The higher number first: a damaged header hides no damage to a record from us.
+    numbers.sort_unstable_by(|a, b| b.cmp(a));
+    numbers.dedup();
+    let mut case = if numbers.contains(&8) { too_deep(random) } else { Damaged::of(good.to_vec()) };
+    if numbers == [4] && random.chance(8) {
+        return too_many(random);
+    }
+    for number in numbers {
+        case.damage(random, number);
+    }
+    case
+}
+
+/// "Depth 64 taken, 65 refused 8"; the listing takes one level more.
+fn too_deep(random: &mut Random) -> Damaged {
+    let most = Limits::LIST_EFFECTS.depth;
+    let depth = random.between(most, most + 3);
+    Damaged::whole(trees::deep_file(random, depth), 8, if depth > most { 8 } else { 0 })
+}
+
+/// "N 2,000 taken, 2,001 refused 4"; the listing takes up to 3,999.
+fn too_many(random: &mut Random) -> Damaged {
+    let (reduce, list) = (Limits::REDUCE.records, Limits::LIST_EFFECTS.records);
+    let between = random.between(reduce + 2, list - 1);
+    let records = random.pick(&[reduce + 1, between, list, list + 1]);
+    Damaged::whole(trees::wide_file(random, records), 4, if records > list { 4 } else { 0 })
+}
+
+impl Damaged {
+    fn of(file: Vec<u8>) -> Damaged {
+        let (output_room, entry_room) = (file::output_room(&file), 2 * file::count(&file));
+        Damaged { file, output_room, entry_room, reduce: 0, list: 0, touched: None }
+    }
+
+    /// A file that is refused for what it is.
+    pub fn whole(file: Vec<u8>, reduce: u8, list: u8) -> Damaged {
+        Damaged { reduce, list, ..Damaged::of(file) }
+    }
+
+    /// A file to which too little is lent.
+    pub fn short(
+        file: Vec<u8>,
+        output_room: usize,
+        entry_room: usize,
+        reduce: u8,
+        list: u8,
+    ) -> Damaged {
+        Damaged { output_room, entry_room, ..Damaged::whole(file, reduce, list) }
+    }
+
+    /// The lowest number stands.
+    fn refuse(&mut self, reduce: u8, list: u8) {
+        let lower =
+            |old: u8, new: u8| if old == 0 || new == 0 { old.max(new) } else { old.min(new) };
+        self.reduce = lower(self.reduce, reduce);
+        self.list = lower(self.list, list);
+    }
+
+    fn damage(&mut self, random: &mut Random, number: u8) {
+        let done = match number {
+            1 => self.cut_or_mark(random),
+            2 => self.version(random),
+            3 => self.settings(random),
+            4 => self.count_or_length(random),
+            5 => self.bad_record(random),
+            6 => self.left_out_kind(random),
+            7 => self.shape(random),
+            // The file was made too deep to begin with.
+            8 => false,
+            9 => {
+                self.output_room -= 1 + random.below(self.output_room);
+                return self.refuse(9, 0);
+            }
+            _ => {
+                self.entry_room -= 1 + random.below(self.entry_room);
+                return self.refuse(0, 10);
+            }
+        };
+        if done {
+            self.refuse(number, number);
+        }
+    }
+
+    // The header.
+
+    fn cut_or_mark(&mut self, random: &mut Random) -> bool {
+        if random.chance(128) {
+            self.file.truncate(random.below(8));
+        } else {
+            self.file[random.below(3)] ^= random.between(1, 255) as u8;
+        }
+        true
+    }
+
+    fn version(&mut self, random: &mut Random) -> bool {
+        self.file[random.between(3, 4)] ^= random.between(1, 255) as u8;
+        true
+    }
+
+    fn settings(&mut self, random: &mut Random) -> bool {
+        self.file[5] |= 8 << random.below(5);
+        true
+    }
+
+    fn count_or_length(&mut self, random: &mut Random) -> bool {
+        let count = file::count(&self.file) as u16;
+        match random.below(4) {
+            0 => self.file[6..8].copy_from_slice(&[0, 0]),
+            1 => self.file[6..8].copy_from_slice(&(count + 1).to_le_bytes()),
+            2 => self.file.truncate(self.file.len() - random.between(1, 16)),
+            _ => self.file.extend(vec![0; random.between(1, 32)]),
+        }
+        true
+    }
+
+    // Records.
+
+    /// A record that has not been damaged and passes the test.
+    fn find(&self, random: &mut Random, test: impl Fn(usize) -> bool) -> Option<usize> {
+        let count = file::count(&self.file);
+        let start = random.below(count);
+        (0..count).map(|step| (start + step) % count).find(|&i| self.touched != Some(i) && test(i))
+    }
+
+    fn edit(&mut self, i: usize, edit: impl FnOnce(&mut [u8])) -> bool {
+        self.touched = Some(i);
+        edit(file::record_mut(&mut self.file, i));
+        true
+    }
+
+    /// "5 kind, facts, sub or byte 3."
+    fn bad_record(&mut self, random: &mut Random) -> bool {
+        let Some(i) = self.find(random, |_| true) else { return false };
+        let way = random.below(5);
+        let number = random.between(1, 255) as u8;
+        self.edit(i, |r| match way {
+            0 => r[0] = random.pick(&[0, 23, 24, 64, 255]),
+            1 => r[1] = bad_facts(random, r[0], r[1]),
+            2 => r[2] = bad_sub(random, r[0]),
+            3 => r[3] = number,
+            // Kinds 20 to 22 are refused with 6 only if all else is good.
+            _ => {
+                r[0] = random.between(20, 22) as u8;
+                (r[1], r[2]) = random.pick(&[(32, 0), (0, 1), (6, 0), (16, 0)]);
+            }
+        })
+    }
+
+    /// "6 kinds 20–22."
+    fn left_out_kind(&mut self, random: &mut Random) -> bool {
+        let Some(i) = self.find(random, |_| true) else { return false };
+        self.edit(i, |r| {
+            r[0] = random.between(20, 22) as u8;
+            r[1] &= 31;
+            r[2] = 0;
+        })
+    }
+
+    /// "7 child counts, subtree sizes (the root's is N), or a kind where it may not stand."
+    fn shape(&mut self, random: &mut Random) -> bool {
+        if random.chance(128) {
+            return self.misplaced_kind(random);
+        }
+        let Some(i) = self.find(random, |_| true) else { return false };
+        let field = random.pick(&[4, 6]);
+        self.edit(i, |r| {
+            let old = u16::from_le_bytes([r[field], r[field + 1]]);
+            let any = random.between(1, 65_535) as u16;
+            let change = random.pick(&[1, u16::MAX, 256, any]);
+            r[field..field + 2].copy_from_slice(&old.wrapping_add(change).to_le_bytes());
+        })
+    }
+
+    /// Another kind with as many children, where it may not stand.
+    fn misplaced_kind(&mut self, random: &mut Random) -> bool {
+        let relations = file::parents_and_depths(&self.file);
+        let kind_of = |i: usize| file::record(&self.file, i)[0];
+        let under = |i: usize| relations[i].0.map_or(0, kind_of);
+        let children = |i: usize| file::record(&self.file, i)[4];
+        let way = random.below(6);
+        let found = self.find(random, |i| match way {
+            0 => kind_of(i) <= kind::THIS && under(i) != kind::ARRAY,
+            1 => kind_of(i) <= kind::THIS && under(i) != kind::CLASS,
+            2 => kind_of(i) == kind::UNARY && under(i) != kind::OBJECT,
+            3 => {
+                let may_spread = [kind::ARRAY, kind::OBJECT, kind::CALL, kind::NEW];
+                kind_of(i) == kind::UNARY && !may_spread.contains(&under(i))
+            }
+            4 => kind_of(i) == kind::ELEMENT && children(i) == 0,
+            _ => kind_of(i) == kind::PROPERTY && children(i) == 1,
+        });
+        let Some(i) = found else { return false };
+        let (kind, sub) = match way {
+            0 => (kind::ELISION, 0),
+            1 => (kind::ELEMENT, element::INDEX_SIGNATURE),
+            2 => (kind::PROPERTY, 0),
+            3 => (kind::SPREAD, 0),
+            4 => (kind::IDENTIFIER, 0),
+            _ => (kind::UNARY, sub::VOID),
+        };
+        self.edit(i, |r| r[..3].copy_from_slice(&[kind, 0, sub]))
+    }
+}
+
+/// "3 is bad in either pair"; "string yes needs symbol no"; bits that the kind does not allow.
+fn bad_facts(random: &mut Random, kind: u8, facts: u8) -> u8 {
+    match random.below(5) {
+        0 => facts | 6,
+        1 => facts | 24,
+        2 => facts & !30 | 16,
+        3 => facts & !30 | 20,
+        _ => match kind {
+            kind::STRING_LITERAL => facts | 1,
+            kind::CALL => facts | 6,
+            kind::SPREAD => facts | 2,
+            kind::ELISION | kind::PROPERTY | kind::ELEMENT => 1,
+            kind::NEW => facts | 128,
+            _ => facts | 32 << random.below(3),
+        },
+    }
+}
+
+fn bad_sub(random: &mut Random, kind: u8) -> u8 {
+    match kind {
+        kind::PROPERTY => random.between(2, 255) as u8,
+        kind::UNARY => random.pick(&[0, 5, 8, 255]),
+        kind::BINARY => random.pick(&[0, 4, 8, 255]),
+        kind::CLASS => random.between(4, 255) as u8,
+        kind::ELEMENT => random.pick(&[
+            0,
+            6,
+            7,
+            element::METHOD | element::VALUE,
+            element::METHOD | element::BLOCK_NONEMPTY,
+            element::PROPERTY | element::BLOCK_NONEMPTY,
+            element::ACCESSOR | element::BLOCK_NONEMPTY,
+            element::STATIC_BLOCK | element::STATIC,
+            element::STATIC_BLOCK | element::COMPUTED_KEY,
+            element::STATIC_BLOCK | element::DECORATED,
+            element::STATIC_BLOCK | element::VALUE,
+            element::INDEX_SIGNATURE | element::STATIC,
+            element::INDEX_SIGNATURE | element::DECORATED,
+            element::INDEX_SIGNATURE | element::BLOCK_NONEMPTY,
+        ]),
+        _ => random.between(1, 255) as u8,
+    }
+}

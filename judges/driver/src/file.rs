@@ -1,0 +1,60 @@
+//! A tree file's bytes, read without the port.
+
+pub const HEADER: usize = 8;
+pub const RECORD: usize = 16;
+
+/// The record count that the header gives.
+pub fn count(file: &[u8]) -> usize {
+    u16::from_le_bytes([file[6], file[7]]).into()
+}
+
+/// The bytes of record `i`.
+pub fn record(file: &[u8], i: usize) -> &[u8] {
+    &file[HEADER + RECORD * i..][..RECORD]
+}
+
+pub fn record_mut(file: &mut [u8], i: usize) -> &mut [u8] {
+    &mut file[HEADER + RECORD * i..][..RECORD]
+}
+
+fn size(file: &[u8], i: usize) -> usize {
+    u16::from_le_bytes([record(file, i)[6], record(file, i)[7]]).into()
+}
+
+/// The least output length for Reduce: "8 + 16 × (2 × N − 1)".
+pub fn output_room(file: &[u8]) -> usize {
+    HEADER + RECORD * (2 * count(file) - 1)
+}
+
+/// The parent of each record of a well-formed file, and its depth; the root has no parent.
+pub fn parents_and_depths(file: &[u8]) -> Vec<(Option<usize>, usize)> {
+    let mut above: Vec<usize> = Vec::new();
+    let mut result = Vec::with_capacity(count(file));
+    for i in 0..count(file) {
+        while above.last().is_some_and(|&node| node + size(file, node) <= i) {
+            above.pop();
+        }
+        result.push((above.last().copied(), above.len() + 1));
+        above.push(i);
+    }
+    result
+}
+
+/// How deep the tree is; "root 1".
+pub fn depth(file: &[u8]) -> usize {
+    parents_and_depths(file).into_iter().map(|(_, depth)| depth).max().unwrap_or(0)
+}
+
+/// The tree as text, a line for each record.
+pub fn show(file: &[u8]) -> String {
+    let mut text = format!("settings {}, {} records\n", file[5], count(file));
+    for (i, (_, depth)) in parents_and_depths(file).into_iter().enumerate() {
+        let r = record(file, i);
+        let number = |at: usize| u32::from_le_bytes([r[at], r[at + 1], r[at + 2], r[at + 3]]);
+        let (kind, facts, sub, count) = (r[0], r[1], r[2], u16::from_le_bytes([r[4], r[5]]));
+        text += &"  ".repeat(depth);
+        text += &format!("kind {kind} facts {facts} sub {sub} children {count}");
+        text += &format!(" text {} place {}\n", number(8), number(12));
+    }
+    text
+}

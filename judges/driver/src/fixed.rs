@@ -1,0 +1,98 @@
+//! The fixed list: a sample of the oracle's answers, to be replayed with no Rust at hand.
+//!
+//! Bytes 0–3 `UXTL`, 4–7 the number of cases; then for each case the length of a tree file in 4
+//! bytes, the file, the length of the oracle's answer in 4 bytes (0: removable) and the answer.
+//! Numbers are little-endian.
+
+use crate::hits::{self, HITS, Hits};
+use crate::oracle::Oracle;
+use crate::random::Random;
+use crate::rows;
+use crate::trees;
+use port::Limits;
+use std::io;
+
+/// The list of the repository.
+pub const LIST: &[u8] = include_bytes!("../../fixed/answers.bin");
+
+const MARK: &[u8; 4] = b"UXTL";
+/// Each outcome is met by so many cases at least.
+const CASES_EACH: u64 = 4;
+/// A case has at most so many records, so that the list stays small.
+const ROOM: usize = 16;
+
+pub struct Case {
+    pub file: Vec<u8>,
+    /// Empty: removable.
+    pub answer: Vec<u8>,
+}
+
+/// Rows A to L, the corners, then seeded trees until every handler's every outcome is met often
+/// enough.
+pub fn make(oracle: &mut Oracle, seed: u64) -> io::Result<Vec<Case>> {
+    let mut files: Vec<Vec<u8>> = rows::rows().iter().map(|(_, tree, _)| tree.file()).collect();
+    files.extend(rows::corners().iter().map(|(_, tree, _)| tree.file()));
+    files.extend(sample(seed));
+    let answers = oracle.reduce(&files)?;
+    Ok(files.into_iter().zip(answers).map(|(file, answer)| Case { file, answer }).collect())
+}
+
+fn sample(seed: u64) -> Vec<Vec<u8>> {
+    let mut random = Random::new(seed);
+    let mut met = Hits::default();
+    let mut files = Vec::new();
+    while met.under(CASES_EACH).next().is_some() {
+        let room = random.between(1, ROOM);
+        let mut file = trees::small_file(&mut random, room);
+        if random.chance(128) {
+            trees::make_premise_true(&mut file);
+        }
+        let tree = port::check(&file, Limits::REDUCE).expect("an accepted file");
+        let hits = hits::of_tree(tree, &port::outcomes(tree));
+        let wanted = |&(hit, _): &_| hits.count(hit) > 0 && met.count(hit) < CASES_EACH;
+        if HITS.iter().any(wanted) {
+            met.add(&hits);
+            files.push(file);
+        }
+    }
+    files
+}
+
+pub fn encode(cases: &[Case]) -> Vec<u8> {
+    let mut bytes = MARK.to_vec();
+    bytes.extend((cases.len() as u32).to_le_bytes());
+    for case in cases {
+        for part in [&case.file, &case.answer] {
+            bytes.extend((part.len() as u32).to_le_bytes());
+            bytes.extend(part);
+        }
+    }
+    bytes
+}
+
+/// The cases of a list; none if the bytes are no list.
+pub fn decode(bytes: &[u8]) -> Option<Vec<Case>> {
+    let (mark, mut rest) = bytes.split_first_chunk::<4>()?;
+    if mark != MARK {
+        return None;
+    }
+    let count = number(&mut rest)?;
+    let mut cases = Vec::new();
+    for _ in 0..count {
+        cases.push(Case { file: part(&mut rest)?, answer: part(&mut rest)? });
+    }
+    rest.is_empty().then_some(cases)
+}
+
+fn number(rest: &mut &[u8]) -> Option<usize> {
+    let (number, after) = rest.split_first_chunk::<4>()?;
+    *rest = after;
+    Some(u32::from_le_bytes(*number) as usize)
+}
+
+fn part(rest: &mut &[u8]) -> Option<Vec<u8>> {
+    let length = number(rest)?;
+    let (part, after) = rest.split_at_checked(length)?;
+    *rest = after;
+    Some(part.to_vec())
+}

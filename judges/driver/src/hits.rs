@@ -1,0 +1,469 @@
+//! How often each handler came to each of its outcomes.
+
+use port::{Marks, Outcome, Tree, element, kind, sub};
+
+/// The fewest hits of each outcome in a run that passes.
+pub const LEAST: u64 = 1_000;
+
+macro_rules! hits {
+    ($($name:ident $words:literal)*) => {
+        /// A handler's outcome.
+        #[derive(Clone, Copy, PartialEq, Eq)]
+        pub enum Hit { $($name),* }
+
+        pub const HITS: &[(Hit, &str)] = &[$((Hit::$name, $words)),*];
+    };
+}
+
+hits! {
+    LiteralRemoved "string literal: removed"
+    IdentifierRemoved "identifier: removed"
+    IdentifierStays "identifier: stays"
+    FunctionRemoved "function: removed"
+    FunctionStays "function: stays"
+    ArrowRemoved "arrow: removed"
+    ArrowStays "arrow: stays"
+    OtherLeafRemoved "other leaf: removed"
+    OtherLeafStays "other leaf: stays"
+    ThisRemovedFlagged "this: removed, flagged"
+    ThisRemovedUnflagged "this: removed, unflagged"
+    ThisStaysFlagged "this: stays, flagged"
+    ThisStaysUnflagged "this: stays, unflagged"
+    VoidRemoved "void: removed"
+    VoidOne "void: its argument left"
+    NotRemoved "not: removed"
+    NotOne "not: its argument left"
+    TypeofIdentifierFlagged "typeof identifier: removed, identifier flagged"
+    TypeofIdentifierUnflagged "typeof identifier: removed, identifier unflagged"
+    TypeofRemoved "other typeof: removed"
+    TypeofOne "other typeof: its argument left"
+    OtherUnaryRemoved "other unary: removed"
+    OtherUnaryStays "other unary: stays"
+    SequenceEmpty "sequence: removed, empty"
+    SequenceRemoved "sequence: removed, nothing left"
+    SequenceOne "sequence: stays with one"
+    SequenceSeveral "sequence: stays with several"
+    ArrayEmpty "array: removed, empty"
+    ArrayRemoved "array: removed, nothing left"
+    ArrayStays "array: stays with a spread"
+    ArrayOne "array: one left"
+    ArraySeveral "array: several"
+    ArrayElision "array: an elision goes"
+    ArraySpreadGoes "array: an unflagged spread goes"
+    TemplateEmpty "template: removed, no expressions"
+    TemplateUnchanged "template: unchanged"
+    TemplateRemoved "template: removed, nothing left"
+    TemplateOneReduced "template: one left, a reduced one"
+    TemplateOneMade "template: one left, a made template"
+    TemplateSeveral "template: several"
+    TemplateFlushedBefore "template: what waits is made a template before a kept one"
+    TemplateFlushedAtEnd "template: what waits is made a template at the end"
+    TemplateDroppedWhileWaiting "template: an expression goes while others wait"
+    ObjectEmpty "object: removed, empty"
+    ObjectSpreadsRemoved "object: removed, only unflagged spreads"
+    ObjectSpreadsUnchanged "object: unchanged, only spreads"
+    ObjectRemoved "object: removed, nothing left"
+    ObjectOne "object: one left"
+    ObjectSeveral "object: several"
+    ObjectFlushedAtProperty "object: what waits is made an object at a property"
+    ObjectFlushedAtEnd "object: what waits is made an object at the end"
+    ObjectKeyKept "object: a key left"
+    ComparisonRemoved "comparison: removed"
+    ComparisonLeft "comparison: the left side left"
+    ComparisonRight "comparison: the right side left"
+    JoinNeither "comparison: two joined, neither a sequence"
+    JoinLeft "comparison: two joined, the left a sequence"
+    JoinRight "comparison: two joined, the right a sequence"
+    JoinBoth "comparison: two joined, both sequences"
+    AdditionUnflagged "addition: removed, unflagged"
+    AdditionFolded "addition: removed, a string literal remains"
+    AdditionGivesWay "addition: its left side left"
+    AdditionLeftEmptied "addition: stays, the left side emptied"
+    AdditionLeftFolded "addition: stays, the left side folded"
+    AdditionLeftAsIs "addition: stays, the left side a flagged string"
+    AdditionRightEmptied "addition: stays, the right side emptied"
+    AdditionRightAsIs "addition: stays, the right side a flagged string"
+    AdditionUnchanged "addition: stays, no string"
+    OtherBinaryRemoved "other binary: removed"
+    OtherBinaryStays "other binary: stays"
+    CallRemoved "pure call: removed"
+    CallOne "pure call: one left"
+    CallSeveral "pure call: several"
+    CallAnnotated "call: pure as annotated alone"
+    CallListed "call: pure as listed alone"
+    CallSummaryFree "call: pure as summary free alone"
+    CallAnnotationsOff "call: annotated with annotations off, impure"
+    CallSummaryOfNoIdentifier "call: summary free, callee no identifier, impure"
+    CallPureFunction "call: pure, of a function under tree-shake-only"
+    CallSpreadWrapped "pure call or new: a flagged spread is made an array"
+    CallSpreadGoes "pure call or new: an unflagged spread goes"
+    CallImpureRemoved "impure call: removed"
+    CallImpureStays "impure call: stays, flagged"
+    CallPreserved "impure call: stays, unflagged, by tree-shake-only"
+    NewRemoved "pure new: removed"
+    NewOne "pure new: one left"
+    NewSeveral "pure new: several"
+    NewImpureFlagged "impure new: stays, flagged"
+    NewImpureUnflagged "impure new: stays, unflagged"
+    ClassDecorated "class: stays, decorated"
+    ClassElementDecorated "class: stays, an element decorated"
+    ClassIndexSignature "class: stays, an index signature"
+    ClassBlock "class: stays, a nonempty static block"
+    ClassStaticValue "class: stays, a flagged static value"
+    ClassArrowHeritage "class: stays, an arrow heritage"
+    ClassArrowLast "class: stays, a heritage that ends in an arrow"
+    ClassRemoved "class: removed"
+    ClassOne "class: a sequence of one"
+    ClassSeveral "class: a sequence of several"
+    ClassHeritageExtracted "class: the heritage extracted"
+    ClassKeyExtracted "class: a computed key extracted"
+    ClassValueExtracted "class: a static value extracted"
+    ClassValueLeft "class: a value that is not static goes"
+}
+
+/// How often each outcome was met.
+pub struct Hits(Vec<u64>);
+
+impl Default for Hits {
+    fn default() -> Self {
+        Hits(vec![0; HITS.len()])
+    }
+}
+
+impl Hits {
+    pub fn count(&self, hit: Hit) -> u64 {
+        self.0[hit as usize]
+    }
+
+    pub fn add(&mut self, other: &Hits) {
+        self.0.iter_mut().zip(&other.0).for_each(|(count, more)| *count += more);
+    }
+
+    /// The outcomes met fewer than `least` times.
+    pub fn under(&self, least: u64) -> impl Iterator<Item = (&'static str, u64)> {
+        HITS.iter().map(|&(hit, words)| (words, self.count(hit))).filter(move |&(_, n)| n < least)
+    }
+
+    fn hit(&mut self, hit: Hit) {
+        self.0[hit as usize] += 1;
+    }
+
+    fn hit_if(&mut self, condition: bool, hit: Hit) {
+        if condition {
+            self.hit(hit);
+        }
+    }
+
+    fn either(&mut self, condition: bool, yes: Hit, no: Hit) {
+        self.hit(if condition { yes } else { no });
+    }
+}
+
+/// The outcomes that reducing this tree comes to.
+pub fn of_tree(tree: Tree, marks: &Marks) -> Hits {
+    let mut counter = Counter { tree, marks, hits: Hits::default() };
+    counter.expression(0);
+    counter.hits
+}
+
+/// Goes where the reduction goes.
+struct Counter<'a> {
+    tree: Tree<'a>,
+    marks: &'a Marks,
+    hits: Hits,
+}
+
+impl Counter<'_> {
+    fn expressions(&mut self, nodes: impl Iterator<Item = usize>) {
+        for node in nodes {
+            self.expression(node);
+        }
+    }
+
+    fn expression(&mut self, i: usize) {
+        let kept = self.marks.is_kept(i);
+        match self.tree.kind(i) {
+            kind::STRING_LITERAL => self.hits.hit(Hit::LiteralRemoved),
+            kind::IDENTIFIER => {
+                self.hits.either(kept, Hit::IdentifierStays, Hit::IdentifierRemoved)
+            }
+            kind::FUNCTION => self.hits.either(kept, Hit::FunctionStays, Hit::FunctionRemoved),
+            kind::ARROW => self.hits.either(kept, Hit::ArrowStays, Hit::ArrowRemoved),
+            kind::OTHER_LEAF => self.hits.either(kept, Hit::OtherLeafStays, Hit::OtherLeafRemoved),
+            kind::THIS => self.this(i),
+            kind::ARRAY => self.array(i),
+            kind::OBJECT => self.object(i),
+            kind::TEMPLATE => self.template(i),
+            kind::SEQUENCE => self.sequence(i),
+            kind::UNARY => self.unary(i),
+            kind::BINARY => self.binary(i),
+            kind::CALL => self.call(i),
+            kind::NEW => self.new_expression(i),
+            _ => self.class(i),
+        }
+    }
+
+    fn this(&mut self, i: usize) {
+        self.hits.hit(match (self.marks.is_kept(i), self.tree.flagged(i)) {
+            (false, true) => Hit::ThisRemovedFlagged,
+            (false, false) => Hit::ThisRemovedUnflagged,
+            (true, true) => Hit::ThisStaysFlagged,
+            (true, false) => Hit::ThisStaysUnflagged,
+        });
+    }
+
+    fn unary(&mut self, i: usize) {
+        let kept = self.marks.is_kept(i);
+        match self.tree.sub(i) {
+            sub::OTHER_UNARY => {
+                return self.hits.either(kept, Hit::OtherUnaryStays, Hit::OtherUnaryRemoved);
+            }
+            sub::VOID => self.hits.either(kept, Hit::VoidOne, Hit::VoidRemoved),
+            sub::NOT => self.hits.either(kept, Hit::NotOne, Hit::NotRemoved),
+            _ if self.tree.is_typeof_identifier(i) => {
+                let flagged = self.tree.flagged(i + 1);
+                let (yes, no) = (Hit::TypeofIdentifierFlagged, Hit::TypeofIdentifierUnflagged);
+                return self.hits.either(flagged, yes, no);
+            }
+            _ => self.hits.either(kept, Hit::TypeofOne, Hit::TypeofRemoved),
+        }
+        self.expression(i + 1);
+    }
+
+    fn sequence(&mut self, i: usize) {
+        let left = self.tree.children(i).filter(|&child| self.marks.is_kept(child)).count();
+        self.hits.hit(match left {
+            0 if self.tree.count(i) == 0 => Hit::SequenceEmpty,
+            0 => Hit::SequenceRemoved,
+            1 => Hit::SequenceOne,
+            _ => Hit::SequenceSeveral,
+        });
+        self.expressions(self.tree.children(i));
+    }
+
+    fn array(&mut self, i: usize) {
+        self.hits.hit(match self.marks.outcome(i) {
+            Outcome::Removed if self.tree.count(i) == 0 => Hit::ArrayEmpty,
+            Outcome::Removed => Hit::ArrayRemoved,
+            Outcome::One => Hit::ArrayOne,
+            Outcome::Several => Hit::ArraySeveral,
+            _ => Hit::ArrayStays,
+        });
+        for child in self.tree.children(i) {
+            match self.tree.kind(child) {
+                kind::ELISION => self.hits.hit(Hit::ArrayElision),
+                kind::SPREAD => self.hits.hit_if(!self.tree.flagged(child), Hit::ArraySpreadGoes),
+                _ => self.expression(child),
+            }
+        }
+    }
+
+    fn template(&mut self, i: usize) {
+        let tree = self.tree;
+        if tree.count(i) == 0 {
+            return self.hits.hit(Hit::TemplateEmpty);
+        }
+        if tree.template_stays(i) {
+            return self.hits.hit(Hit::TemplateUnchanged);
+        }
+        let mut waiting = false;
+        let mut any_reduced = false;
+        for child in tree.children(i) {
+            if tree.possible_symbol(child) {
+                waiting = true;
+                continue;
+            }
+            self.expression(child);
+            let kept = self.marks.is_kept(child);
+            any_reduced |= kept;
+            self.hits.hit_if(waiting && kept, Hit::TemplateFlushedBefore);
+            self.hits.hit_if(waiting && !kept, Hit::TemplateDroppedWhileWaiting);
+            waiting &= !kept;
+        }
+        self.hits.hit_if(waiting, Hit::TemplateFlushedAtEnd);
+        self.hits.hit(match self.marks.outcome(i) {
+            Outcome::Removed => Hit::TemplateRemoved,
+            Outcome::One if any_reduced => Hit::TemplateOneReduced,
+            Outcome::One => Hit::TemplateOneMade,
+            _ => Hit::TemplateSeveral,
+        });
+    }
+
+    fn object(&mut self, i: usize) {
+        let tree = self.tree;
+        let outcome = self.marks.outcome(i);
+        self.hits.hit(match outcome {
+            Outcome::Removed if tree.count(i) == 0 => Hit::ObjectEmpty,
+            Outcome::Removed if tree.only_spreads(i) => Hit::ObjectSpreadsRemoved,
+            Outcome::Removed => Hit::ObjectRemoved,
+            Outcome::One => Hit::ObjectOne,
+            Outcome::Several => Hit::ObjectSeveral,
+            _ => Hit::ObjectSpreadsUnchanged,
+        });
+        if tree.only_spreads(i) {
+            return;
+        }
+        let mut waiting = false;
+        for child in tree.children(i) {
+            if tree.kind(child) == kind::SPREAD {
+                waiting = true;
+                continue;
+            }
+            self.hits.hit_if(waiting, Hit::ObjectFlushedAtProperty);
+            waiting = false;
+            let keyed = tree.sub(child) == sub::KEY_AND_VALUE;
+            self.hits.hit_if(keyed && self.marks.is_kept(child + 1), Hit::ObjectKeyKept);
+            self.expressions(tree.children(child));
+        }
+        self.hits.hit_if(waiting, Hit::ObjectFlushedAtEnd);
+    }
+
+    fn binary(&mut self, i: usize) {
+        let kept = self.marks.is_kept(i);
+        match self.tree.sub(i) {
+            sub::COMPARISON => self.comparison(i),
+            sub::ADDITION => self.addition(i),
+            _ => self.hits.either(kept, Hit::OtherBinaryStays, Hit::OtherBinaryRemoved),
+        }
+    }
+
+    fn comparison(&mut self, i: usize) {
+        let (left, right) = (i + 1, self.tree.after(i + 1));
+        let marks = self.marks;
+        self.hits.hit(match (marks.is_kept(left), marks.is_kept(right)) {
+            (false, false) => Hit::ComparisonRemoved,
+            (true, false) => Hit::ComparisonLeft,
+            (false, true) => Hit::ComparisonRight,
+            (true, true) => match (marks.is_sequence(left), marks.is_sequence(right)) {
+                (false, false) => Hit::JoinNeither,
+                (true, false) => Hit::JoinLeft,
+                (false, true) => Hit::JoinRight,
+                (true, true) => Hit::JoinBoth,
+            },
+        });
+        self.expressions(self.tree.children(i));
+    }
+
+    fn addition(&mut self, i: usize) {
+        self.hits.hit(match self.marks.outcome(i) {
+            Outcome::Removed if !self.tree.flagged(i) => Hit::AdditionUnflagged,
+            Outcome::Removed => Hit::AdditionFolded,
+            Outcome::One => Hit::AdditionGivesWay,
+            Outcome::Stays => self.addition_that_stays(i),
+            _ => Hit::AdditionUnchanged,
+        });
+    }
+
+    fn addition_that_stays(&self, i: usize) -> Hit {
+        let (tree, marks) = (self.tree, self.marks);
+        let (left, right) = (i + 1, tree.after(i + 1));
+        if !marks.is_string(tree, left) {
+            return if tree.flagged(right) {
+                Hit::AdditionRightAsIs
+            } else {
+                Hit::AdditionRightEmptied
+            };
+        }
+        match marks.is_flagged(tree, left) {
+            false => Hit::AdditionLeftEmptied,
+            true if tree.is_addition(left) => Hit::AdditionLeftFolded,
+            true => Hit::AdditionLeftAsIs,
+        }
+    }
+
+    fn call(&mut self, i: usize) {
+        let tree = self.tree;
+        let (annotated, listed, summary) =
+            (tree.facts(i) & 32 != 0, tree.facts(i) & 64 != 0, tree.facts(i) & 128 != 0);
+        if !tree.is_pure(i) {
+            self.hits.hit_if(annotated, Hit::CallAnnotationsOff);
+            self.hits.hit_if(summary, Hit::CallSummaryOfNoIdentifier);
+            return self.hits.hit(match (tree.flagged(i), self.marks.is_kept(i)) {
+                (true, _) => Hit::CallImpureStays,
+                (false, true) => Hit::CallPreserved,
+                (false, false) => Hit::CallImpureRemoved,
+            });
+        }
+        self.hits.hit_if(annotated && !listed && !summary, Hit::CallAnnotated);
+        self.hits.hit_if(!annotated && listed && !summary, Hit::CallListed);
+        self.hits.hit_if(!annotated && !listed && summary, Hit::CallSummaryFree);
+        self.hits.hit_if(tree.is_preserved_iife(i), Hit::CallPureFunction);
+        self.hits.hit(match self.marks.outcome(i) {
+            Outcome::Removed => Hit::CallRemoved,
+            Outcome::One => Hit::CallOne,
+            _ => Hit::CallSeveral,
+        });
+        self.arguments(i);
+    }
+
+    fn new_expression(&mut self, i: usize) {
+        if !self.tree.is_pure(i) {
+            let flagged = self.tree.flagged(i);
+            return self.hits.either(flagged, Hit::NewImpureFlagged, Hit::NewImpureUnflagged);
+        }
+        self.hits.hit(match self.marks.outcome(i) {
+            Outcome::Removed => Hit::NewRemoved,
+            Outcome::One => Hit::NewOne,
+            _ => Hit::NewSeveral,
+        });
+        self.arguments(i);
+    }
+
+    fn arguments(&mut self, i: usize) {
+        for argument in self.tree.children(i).skip(1) {
+            if self.tree.kind(argument) == kind::SPREAD {
+                let flagged = self.tree.flagged(argument);
+                self.hits.either(flagged, Hit::CallSpreadWrapped, Hit::CallSpreadGoes);
+            } else {
+                self.expression(argument);
+            }
+        }
+    }
+
+    fn class(&mut self, i: usize) {
+        if self.tree.class_stays(i) {
+            return self.class_that_stays(i);
+        }
+        let tree = self.tree;
+        let flagged = |node: Option<usize>| node.is_some_and(|node| tree.flagged(node));
+        let mut extracted = usize::from(flagged(tree.heritage(i)));
+        self.hits.hit_if(extracted == 1, Hit::ClassHeritageExtracted);
+        for e in tree.elements(i) {
+            let (key, value) = (flagged(tree.computed_key(e)), tree.static_value(e).is_some());
+            extracted += usize::from(key) + usize::from(value);
+            self.hits.hit_if(key, Hit::ClassKeyExtracted);
+            self.hits.hit_if(value, Hit::ClassValueExtracted);
+            let has_value = tree.sub(e) & element::VALUE != 0;
+            self.hits.hit_if(has_value && !value, Hit::ClassValueLeft);
+        }
+        self.hits.hit(match extracted {
+            0 => Hit::ClassRemoved,
+            1 => Hit::ClassOne,
+            _ => Hit::ClassSeveral,
+        });
+    }
+
+    /// Counted where there is one reason alone.
+    fn class_that_stays(&mut self, i: usize) {
+        let tree = self.tree;
+        let any = |test: &dyn Fn(usize) -> bool| tree.elements(i).any(test);
+        let arrow = tree.has_arrow_heritage(i);
+        let direct = arrow && tree.kind(i + 1) == kind::ARROW;
+        let reasons = [
+            (tree.sub(i) & sub::CLASS_DECORATED != 0, Hit::ClassDecorated),
+            (any(&|e| tree.sub(e) & element::DECORATED != 0), Hit::ClassElementDecorated),
+            (any(&|e| tree.is_index_signature(e)), Hit::ClassIndexSignature),
+            (any(&|e| tree.is_nonempty_block(e)), Hit::ClassBlock),
+            (
+                any(&|e| tree.static_value(e).is_some_and(|value| tree.flagged(value))),
+                Hit::ClassStaticValue,
+            ),
+            (direct, Hit::ClassArrowHeritage),
+            (arrow && !direct, Hit::ClassArrowLast),
+        ];
+        let mut met = reasons.into_iter().filter(|reason| reason.0);
+        if let (Some((_, only)), None) = (met.next(), met.next()) {
+            self.hits.hit(only);
+        }
+    }
+}

@@ -1,0 +1,17 @@
+//! Holds every side of document 01 to the others: see the README beside this crate.
+
+#![forbid(unsafe_code)]
+
+pub mod damage;
+pub mod derived;
+pub mod file;
+pub mod fixed;
+pub mod hits;
+pub mod judge;
+pub mod oracle;
+pub mod random;
+pub mod rows;
+pub mod run;
+pub mod side;
+pub mod speed;
+pub mod trees;

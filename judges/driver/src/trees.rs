@@ -1,0 +1,562 @@
+//! Seeded random tree files that document 01 accepts: every kind, fact and setting, with bias to
+//! where the handlers' outcomes part.
+
+use port::{Limits, element, kind, sub};
+
+use crate::random::Random;
+
+/// A file that Reduce takes.
+pub fn file(random: &mut Random) -> Vec<u8> {
+    let mut grower = Grower::new(random);
+    match grower.random.below(400) {
+        0 => grower.wide(Limits::REDUCE.records),
+        1..=10 => grower.deep(Limits::REDUCE.depth),
+        _ => grower.any(),
+    }
+    grower.file()
+}
+
+/// A file of at most `room` records.
+pub fn small_file(random: &mut Random, room: usize) -> Vec<u8> {
+    let mut grower = Grower::new(random);
+    grower.expression(room, 8);
+    grower.file()
+}
+
+/// A file of exactly `records` records: a sequence.
+pub fn wide_file(random: &mut Random, records: usize) -> Vec<u8> {
+    let mut grower = Grower::new(random);
+    grower.exactly(records);
+    grower.file()
+}
+
+/// A file whose tree is exactly `depth` deep.
+pub fn deep_file(random: &mut Random, depth: usize) -> Vec<u8> {
+    let mut grower = Grower::new(random);
+    grower.nest(depth);
+    grower.file()
+}
+
+/// Sets flags until every clear flag that the reduction reads is true: each such node then has an
+/// empty effect list.
+pub fn make_premise_true(file: &mut [u8]) {
+    loop {
+        let tree = port::check(file, Limits::REDUCE).expect("an accepted file");
+        let mut untrue = None;
+        port::reads(tree, &port::outcomes(tree), &mut |read| {
+            if read.has_effects {
+                untrue = Some(read.node);
+            }
+        });
+        match untrue {
+            Some(node) => file[8 + 16 * node + 1] |= 1,
+            None => return,
+        }
+    }
+}
+
+/// How one tree is grown. Chances are of 256.
+struct Temper {
+    settings: u8,
+    flag: u16,
+    no_symbol: u16,
+    string: u16,
+    pure: u16,
+    empty_text: u16,
+    /// A kind that comes up more often.
+    focus: u8,
+    places: usize,
+}
+
+impl Temper {
+    fn new(random: &mut Random) -> Temper {
+        Temper {
+            settings: random.below(8) as u8,
+            flag: random.pick(&[0, 32, 96, 160, 224, 256]),
+            no_symbol: random.pick(&[48, 128, 208, 240]),
+            string: random.pick(&[32, 128, 192]),
+            pure: random.pick(&[16, 64, 128]),
+            empty_text: random.pick(&[32, 128, 224]),
+            focus: random.pick(&COMPOUNDS),
+            places: random.below(4),
+        }
+    }
+}
+
+const LEAVES: [u8; 6] = [
+    kind::STRING_LITERAL,
+    kind::IDENTIFIER,
+    kind::FUNCTION,
+    kind::ARROW,
+    kind::OTHER_LEAF,
+    kind::THIS,
+];
+
+/// The other expressions, by how often they come up. Those that need no child stand first.
+const COMPOUNDS: [u8; 12] = [
+    kind::ARRAY,
+    kind::OBJECT,
+    kind::TEMPLATE,
+    kind::SEQUENCE,
+    kind::CLASS,
+    kind::UNARY,
+    kind::UNARY,
+    kind::BINARY,
+    kind::BINARY,
+    kind::CALL,
+    kind::CALL,
+    kind::NEW,
+];
+
+const NEED_NO_CHILD: usize = 5;
+
+struct Grower<'r> {
+    random: &'r mut Random,
+    temper: Temper,
+    records: Vec<[u8; 16]>,
+}
+
+impl<'r> Grower<'r> {
+    fn new(random: &'r mut Random) -> Self {
+        let temper = Temper::new(random);
+        Grower { random, temper, records: Vec::new() }
+    }
+
+    fn file(self) -> Vec<u8> {
+        let mut file = b"UXT\x01\x00".to_vec();
+        file.push(self.temper.settings);
+        file.extend((self.records.len() as u16).to_le_bytes());
+        file.extend(self.records.concat());
+        file
+    }
+
+    fn any(&mut self) {
+        let room = match self.random.below(100) {
+            0..40 => self.random.between(1, 14),
+            40..76 => self.random.between(15, 40),
+            76..97 => self.random.between(41, 150),
+            _ => self.random.between(151, 500),
+        };
+        let depth = self.random.pick(&[4, 6, 9, 14, 30]);
+        if self.random.chance(128) {
+            // Several expressions, each of which is reached.
+            self.plain_list(kind::SEQUENCE, room, depth);
+        } else {
+            self.expression(room, depth);
+        }
+    }
+
+    fn wide(&mut self, most: usize) {
+        let records = self.random.between(most - 2, most);
+        self.exactly(records);
+    }
+
+    fn deep(&mut self, most: usize) {
+        let depth = self.random.between(most - 20, most);
+        self.nest(depth);
+    }
+
+    // Records.
+
+    /// Begins a node; its children come next.
+    fn open(&mut self, kind: u8, sub: u8) -> usize {
+        let at = self.records.len();
+        let mut record = [0; 16];
+        record[0] = kind;
+        record[1] = self.facts(kind);
+        record[2] = sub;
+        record[8..12].copy_from_slice(&self.text().to_le_bytes());
+        record[12..].copy_from_slice(&self.place(at).to_le_bytes());
+        self.records.push(record);
+        at
+    }
+
+    /// Ends the node: its children have been written.
+    fn close(&mut self, at: usize, count: usize) {
+        let size = self.records.len() - at;
+        self.records[at][4..6].copy_from_slice(&(count as u16).to_le_bytes());
+        self.records[at][6..8].copy_from_slice(&(size as u16).to_le_bytes());
+    }
+
+    fn leaf(&mut self, kind: u8, sub: u8) {
+        let at = self.open(kind, sub);
+        self.close(at, 0);
+    }
+
+    fn text(&mut self) -> u32 {
+        if self.random.chance(self.temper.empty_text) { 0 } else { self.random.draw() as u32 }
+    }
+
+    fn place(&mut self, at: usize) -> u32 {
+        match self.temper.places {
+            0 => at as u32 * 3,
+            1 => u32::MAX - at as u32,
+            2 => self.random.below(4) as u32,
+            _ => self.random.draw() as u32,
+        }
+    }
+
+    fn facts(&mut self, kind: u8) -> u8 {
+        let flag = u8::from(self.random.chance(self.temper.flag));
+        match kind {
+            kind::STRING_LITERAL => 18,
+            kind::ELISION | kind::PROPERTY | kind::ELEMENT => 0,
+            kind::SPREAD => flag,
+            kind::CALL => flag | self.symbol_and_string() | self.purity(3),
+            kind::NEW => flag | self.symbol_and_string() | self.purity(2),
+            _ => flag | self.symbol_and_string(),
+        }
+    }
+
+    fn symbol_and_string(&mut self) -> u8 {
+        let no_symbol = self.random.chance(self.temper.no_symbol);
+        let symbol = if no_symbol { 1 } else { self.random.pick(&[0, 0, 2]) };
+        let string = if no_symbol && self.random.chance(self.temper.string) {
+            2
+        } else {
+            self.random.below(2) as u8
+        };
+        symbol << 1 | string << 3
+    }
+
+    /// Annotated, listed and summary free.
+    fn purity(&mut self, bits: u8) -> u8 {
+        let pure = self.temper.pure;
+        (0..bits).map(|bit| u8::from(self.random.chance(pure)) << (5 + bit)).sum()
+    }
+
+    // Expressions. `room` is how many records there may be, `depth` how many levels.
+
+    fn expression(&mut self, room: usize, depth: usize) {
+        let kind = self.kind(room, depth);
+        match kind {
+            kind::ARRAY => self.array(room, depth),
+            kind::OBJECT => self.object(room, depth),
+            kind::TEMPLATE | kind::SEQUENCE => self.plain_list(kind, room, depth),
+            kind::CLASS => self.class(room, depth),
+            kind::UNARY => self.unary(room, depth),
+            kind::BINARY => self.binary(room, depth),
+            kind::CALL | kind::NEW => self.call_or_new(kind, room, depth),
+            _ => self.leaf(kind, 0),
+        }
+    }
+
+    fn kind(&mut self, room: usize, depth: usize) -> u8 {
+        if room < 3 || depth < 3 {
+            return match self.random.below(16) {
+                0 => self.random.pick(&COMPOUNDS[..NEED_NO_CHILD]),
+                1 if room >= 2 && depth >= 2 => kind::UNARY,
+                _ => self.random.pick(&LEAVES),
+            };
+        }
+        match self.random.below(8) {
+            0 => self.random.pick(&LEAVES),
+            1..=3 => self.temper.focus,
+            _ => self.random.pick(&COMPOUNDS),
+        }
+    }
+
+    /// At most `most` items, each of at least `least` records, in `room` records; their number.
+    fn list(
+        &mut self,
+        room: usize,
+        most: usize,
+        least: usize,
+        mut item: impl FnMut(&mut Self, usize),
+    ) -> usize {
+        let wanted =
+            if most == 0 || self.random.chance(24) { 0 } else { self.random.between(1, most) };
+        let mut left = room;
+        for count in 0..wanted {
+            if left < least {
+                return count;
+            }
+            let share = (2 * left / (wanted - count)).clamp(least, left);
+            let begin = self.records.len();
+            let share = self.random.between(least, share);
+            item(self, share);
+            left -= self.records.len() - begin;
+        }
+        wanted
+    }
+
+    fn most(&mut self) -> usize {
+        self.random.pick(&[1, 2, 3, 5, 8])
+    }
+
+    fn array(&mut self, room: usize, depth: usize) {
+        let at = self.open(kind::ARRAY, 0);
+        let most = if depth < 2 { 0 } else { self.most() };
+        let spreads = self.random.pick(&[0, 40, 100]);
+        let count = self.list(room - 1, most, 1, |s, share| {
+            if s.random.chance(20) {
+                s.leaf(kind::ELISION, 0);
+            } else {
+                s.spread_or_expression(spreads, share, depth - 1);
+            }
+        });
+        self.close(at, count);
+    }
+
+    fn spread_or_expression(&mut self, spreads: u16, room: usize, depth: usize) {
+        if room >= 2 && depth >= 2 && self.random.chance(spreads) {
+            self.spread(room, depth);
+        } else {
+            self.expression(room, depth);
+        }
+    }
+
+    fn spread(&mut self, room: usize, depth: usize) {
+        let at = self.open(kind::SPREAD, 0);
+        self.expression(room - 1, depth - 1);
+        self.close(at, 1);
+    }
+
+    fn object(&mut self, room: usize, depth: usize) {
+        let at = self.open(kind::OBJECT, 0);
+        let most = if depth < 3 { 0 } else { self.most() };
+        let spreads = self.random.pick(&[0, 100, 200, 256]);
+        let count = self.list(room - 1, most, 2, |s, share| {
+            if s.random.chance(spreads) {
+                s.spread(share, depth - 1);
+            } else {
+                s.property(share, depth - 1);
+            }
+        });
+        self.close(at, count);
+    }
+
+    fn property(&mut self, room: usize, depth: usize) {
+        let keyed = room >= 3 && self.random.chance(128);
+        let at = self.open(kind::PROPERTY, keyed.into());
+        if keyed {
+            self.expression(1, depth - 1);
+        }
+        self.expression(room - 1 - usize::from(keyed), depth - 1);
+        self.close(at, 1 + usize::from(keyed));
+    }
+
+    /// A template or sequence.
+    fn plain_list(&mut self, kind: u8, room: usize, depth: usize) {
+        let at = self.open(kind, 0);
+        let most = if depth < 2 { 0 } else { self.most() };
+        let count = self.list(room - 1, most, 1, |s, share| s.expression(share, depth - 1));
+        self.close(at, count);
+    }
+
+    fn unary(&mut self, room: usize, depth: usize) {
+        let sub = self.random.between(1, 4) as u8;
+        let at = self.open(kind::UNARY, sub);
+        if sub == sub::TYPEOF && self.random.chance(100) {
+            self.leaf(kind::IDENTIFIER, 0);
+        } else {
+            self.expression(room - 1, depth - 1);
+        }
+        self.close(at, 1);
+    }
+
+    fn binary(&mut self, room: usize, depth: usize) {
+        let sub = match self.random.below(8) {
+            0..3 => sub::COMPARISON,
+            3..7 => sub::ADDITION,
+            _ => sub::OTHER_BINARY,
+        };
+        self.binary_of(sub, room, depth);
+    }
+
+    fn binary_of(&mut self, sub: u8, room: usize, depth: usize) {
+        let at = self.open(kind::BINARY, sub);
+        let left = self.random.between(1, room - 2);
+        self.side(sub, left, depth - 1);
+        let used = self.records.len() - at;
+        match sub {
+            sub::ADDITION => self.expression(room - used, depth - 1),
+            _ => self.side(sub, room - used, depth - 1),
+        }
+        // An addition is folded only if flagged.
+        if sub == sub::ADDITION && self.random.chance(128) {
+            self.records[at][1] |= 1;
+        }
+        self.close(at, 2);
+    }
+
+    /// A side of a binary where chains of additions begin and sequences meet.
+    fn side(&mut self, sub: u8, room: usize, depth: usize) {
+        let chain = self.random.below(3);
+        match sub {
+            sub::ADDITION if chain > 0 && room >= 3 && depth >= 3 => {
+                self.binary_of(sub, room, depth);
+            }
+            sub::ADDITION if chain == 1 => self.leaf(kind::STRING_LITERAL, 0),
+            sub::COMPARISON if chain == 0 && depth >= 2 => {
+                self.plain_list(kind::SEQUENCE, room, depth);
+            }
+            _ => self.expression(room, depth),
+        }
+    }
+
+    fn call_or_new(&mut self, kind: u8, room: usize, depth: usize) {
+        let at = self.open(kind, 0);
+        match self.random.below(4) {
+            0 => self.expression(room / 2, depth - 1),
+            1 => {
+                let function = self.random.pick(&[kind::FUNCTION, kind::ARROW]);
+                self.leaf(function, 0);
+            }
+            _ => self.leaf(kind::IDENTIFIER, 0),
+        }
+        let used = self.records.len() - at;
+        let most = self.most();
+        let arguments = self.list(room - used, most, 1, |s, share| {
+            s.spread_or_expression(64, share, depth - 1);
+        });
+        self.close(at, 1 + arguments);
+    }
+
+    fn class(&mut self, room: usize, depth: usize) {
+        let has_heritage = room >= 3 && depth >= 3 && self.random.chance(128);
+        let decorated = self.random.chance(20);
+        let at = self.open(kind::CLASS, u8::from(decorated) | u8::from(has_heritage) << 1);
+        if has_heritage {
+            let share = self.random.between(1, room - 1);
+            self.heritage(share, depth - 1);
+        }
+        let used = self.records.len() - at;
+        let most = if depth < 2 { 0 } else { self.most() };
+        // In most classes no element keeps the class.
+        let keepers = self.random.pick(&[0, 0, 160]);
+        let elements = self.list(room - used, most, 1, |s, share| {
+            s.element(keepers, share, depth - 1);
+        });
+        self.close(at, elements + usize::from(has_heritage));
+    }
+
+    fn heritage(&mut self, room: usize, depth: usize) {
+        match self.random.below(8) {
+            0 => self.leaf(kind::ARROW, 0),
+            1..=2 if room >= 3 && depth >= 3 => {
+                let at = self.open(kind::SEQUENCE, 0);
+                self.expression(1, 1);
+                self.ends_in_arrow(room - 2, depth - 1);
+                self.close(at, 2);
+            }
+            _ => self.expression(room, depth),
+        }
+    }
+
+    /// An arrow, or a sequence whose last child ends in one.
+    fn ends_in_arrow(&mut self, room: usize, depth: usize) {
+        if room < 2 || depth < 2 || self.random.chance(128) {
+            return self.leaf(kind::ARROW, 0);
+        }
+        let at = self.open(kind::SEQUENCE, 0);
+        self.ends_in_arrow(room - 1, depth - 1);
+        self.close(at, 1);
+    }
+
+    fn element(&mut self, keepers: u16, room: usize, depth: usize) {
+        let mut sub = self.random.between(1, 4) as u8;
+        if self.random.chance(keepers) {
+            match self.random.below(3) {
+                0 => return self.leaf(kind::ELEMENT, element::INDEX_SIGNATURE),
+                1 => sub = element::STATIC_BLOCK | element::BLOCK_NONEMPTY,
+                _ => sub = self.random.between(1, 3) as u8 | element::DECORATED,
+            }
+        }
+        if sub & element::FORM == element::STATIC_BLOCK {
+            return self.leaf(kind::ELEMENT, sub);
+        }
+        self.member(sub, room, depth);
+    }
+
+    fn member(&mut self, mut sub: u8, room: usize, depth: usize) {
+        let mut left = if depth < 2 { 0 } else { room - 1 };
+        if self.random.chance(160) {
+            sub |= element::STATIC;
+        }
+        let keyed = left > 0 && self.random.chance(100);
+        left -= usize::from(keyed);
+        let valued = left > 0 && sub & element::FORM != element::METHOD && self.random.chance(200);
+        sub |= if keyed { element::COMPUTED_KEY } else { 0 };
+        sub |= if valued { element::VALUE } else { 0 };
+        let at = self.open(kind::ELEMENT, sub);
+        if keyed {
+            self.expression(1, depth - 1);
+        }
+        if valued {
+            let value = self.records.len();
+            self.expression(left, depth - 1);
+            // A flagged static value keeps its class.
+            if self.random.chance(192) {
+                self.records[value][1] &= !1;
+            }
+        }
+        self.close(at, usize::from(keyed) + usize::from(valued));
+    }
+
+    // Edges.
+
+    /// A sequence of exactly so many records.
+    fn exactly(&mut self, records: usize) {
+        let at = self.open(kind::SEQUENCE, 0);
+        let mut count = 0;
+        while self.records.len() < records {
+            let left = records - self.records.len();
+            let share = self.random.between(1, left.min(40));
+            self.expression(share, 8);
+            count += 1;
+        }
+        self.close(at, count);
+    }
+
+    /// An expression exactly `depth` deep.
+    fn nest(&mut self, depth: usize) {
+        if depth == 1 {
+            return self.expression(1, 1);
+        }
+        match self.random.below(if depth == 2 { 6 } else { 9 }) {
+            0 => self.nest_in(kind::SEQUENCE, 0, &[Part::Other, Part::Nested], depth),
+            1 => self.nest_in(kind::ARRAY, 0, &[Part::Nested, Part::Other], depth),
+            2 => self.nest_in(kind::TEMPLATE, 0, &[Part::Other, Part::Nested], depth),
+            3 => {
+                let sub = self.random.between(1, 4) as u8;
+                self.nest_in(kind::UNARY, sub, &[Part::Nested], depth);
+            }
+            4 => {
+                let sub = self.random.pick(&[sub::COMPARISON, sub::ADDITION]);
+                let right = self.random.chance(64);
+                let parts =
+                    if right { [Part::Other, Part::Nested] } else { [Part::Nested, Part::Other] };
+                self.nest_in(kind::BINARY, sub, &parts, depth);
+            }
+            5 => self.nest_in(kind::CALL, 0, &[Part::Other, Part::Nested], depth),
+            6 => self.nest_in(kind::ARRAY, 0, &[Part::Under(kind::SPREAD, 0), Part::Other], depth),
+            7 => self.nest_in(kind::OBJECT, 0, &[Part::Under(kind::PROPERTY, 0)], depth),
+            _ => {
+                let member = element::PROPERTY | element::STATIC | element::VALUE;
+                self.nest_in(kind::CLASS, 0, &[Part::Under(kind::ELEMENT, member)], depth);
+            }
+        }
+    }
+
+    fn nest_in(&mut self, kind: u8, sub: u8, parts: &[Part], depth: usize) {
+        let at = self.open(kind, sub);
+        for &part in parts {
+            match part {
+                Part::Nested => self.nest(depth - 1),
+                Part::Under(kind, sub) => self.nest_in(kind, sub, &[Part::Nested], depth - 1),
+                Part::Other => self.expression(1, 1),
+            }
+        }
+        self.close(at, parts.len());
+    }
+}
+
+/// What stands under a nest's node.
+#[derive(Clone, Copy)]
+enum Part {
+    Nested,
+    /// A node that is no expression, with the nest in it.
+    Under(u8, u8),
+    Other,
+}

@@ -1,0 +1,303 @@
+//! Refusals 1 to 8.
+
+use super::tree::{HEADER_SIZE, LITERAL_FACTS, RECORD_SIZE, Record, Tree, element, kind, sub};
+
+/// How many records a file may have, and how deep its tree may be.
+#[derive(Clone, Copy)]
+pub struct Limits {
+    pub records: usize,
+    pub depth: usize,
+}
+
+impl Limits {
+    /// "4 count not 1–2,000 ...; 8 depth over 64 (root 1)."
+    pub const REDUCE: Limits = Limits { records: 2_000, depth: 64 };
+    /// "1–8 likewise, but count to 3,999 and depth to 65."
+    pub const LIST_EFFECTS: Limits = Limits { records: MAX_RECORDS, depth: 65 };
+}
+
+/// The largest limits: more records are refused, and a greater depth is not told apart.
+const MAX_RECORDS: usize = 3_999;
+const MAX_DEPTH: usize = 254;
+
+/// The file's tree, or the number of its refusal. "Over all records each": a number is tested
+/// over all records before the next number is.
+pub fn check(file: &[u8], limits: Limits) -> Result<Tree<'_>, u8> {
+    let tree = check_header(file, limits.records)?;
+    check_records(tree.records)?;
+    check_shape(tree, limits.depth)?;
+    Ok(tree)
+}
+
+/// "1 under 8 bytes or mark wrong; 2 version; 3 setting bits 3–7; 4 count not 1–2,000, or length
+/// not 8 + 16 × N."
+fn check_header(file: &[u8], max_records: usize) -> Result<Tree<'_>, u8> {
+    let Some((header, rest)) = file.split_first_chunk::<HEADER_SIZE>() else { return Err(1) };
+    if header[..3] != *b"UXT" {
+        return Err(1);
+    }
+    if u16::from_le_bytes([header[3], header[4]]) != 1 {
+        return Err(2);
+    }
+    let settings = header[5];
+    if settings > 7 {
+        return Err(3);
+    }
+    let count = u16::from_le_bytes([header[6], header[7]]) as usize;
+    if count < 1 || count > max_records.min(MAX_RECORDS) || rest.len() != RECORD_SIZE * count {
+        return Err(4);
+    }
+    Ok(Tree { records: rest.as_chunks().0, settings })
+}
+
+/// "5 kind, facts, sub or byte 3; 6 kinds 20–22."
+fn check_records(records: &[Record]) -> Result<(), u8> {
+    let mut left_out = false;
+    for record in records {
+        if !is_good(record) {
+            return Err(5);
+        }
+        left_out |= record[0] >= kind::LOGICAL;
+    }
+    if left_out { Err(6) } else { Ok(()) }
+}
+
+/// "Allowed facts stand in a constant table by kind: 0 for 8, 11, 19; 1 for 9; 255 for 16; 127
+/// for 17; else 31."
+const ALLOWED_FACTS: [u8; KINDS] =
+    [0, 31, 31, 31, 31, 31, 31, 31, 0, 1, 31, 0, 31, 31, 31, 31, 255, 127, 31, 0, 31, 31, 31];
+
+/// Kinds 0 to 22.
+const KINDS: usize = 23;
+
+/// Whether a record passes 5. The tables stand for the two functions below, byte by byte: kinds
+/// follow each other irregularly, and a branch by kind would often be mispredicted.
+#[inline]
+fn is_good(record: &Record) -> bool {
+    let [kind, facts, sub, zero, ..] = *record;
+    match (GOOD_FACTS.get(kind as usize), GOOD_SUBS.get(kind as usize)) {
+        (Some(good_facts), Some(good_subs)) => {
+            good_facts.has(facts) & good_subs.has(sub) & (zero == 0)
+        }
+        _ => false,
+    }
+}
+
+/// A set of bytes.
+#[derive(Clone, Copy)]
+struct Bytes([u64; 4]);
+
+impl Bytes {
+    #[inline]
+    fn has(&self, byte: u8) -> bool {
+        self.0[(byte >> 6) as usize] >> (byte & 63) & 1 != 0
+    }
+
+    const fn with(mut self, byte: u8) -> Bytes {
+        self.0[(byte >> 6) as usize] |= 1 << (byte & 63);
+        self
+    }
+}
+
+static GOOD_FACTS: [Bytes; KINDS] = good_bytes(true);
+static GOOD_SUBS: [Bytes; KINDS] = good_bytes(false);
+
+/// For each kind, the good facts or the good subs. There is no kind 0.
+const fn good_bytes(facts: bool) -> [Bytes; KINDS] {
+    let mut sets = [Bytes([0; 4]); KINDS];
+    let mut number = 256;
+    while number < KINDS * 256 {
+        let (kind, byte) = ((number / 256) as u8, (number % 256) as u8);
+        if if facts { are_facts_good(kind, byte) } else { is_sub_good(kind, byte) } {
+            sets[kind as usize] = sets[kind as usize].with(byte);
+        }
+        number += 1;
+    }
+    sets
+}
+
+/// "A literal has exactly 18. String yes needs symbol no; 3 is bad in either pair."
+const fn are_facts_good(kind: u8, facts: u8) -> bool {
+    let (symbol, string) = (facts >> 1 & 3, facts >> 3 & 3);
+    facts & !ALLOWED_FACTS[kind as usize] == 0
+        && symbol != 3
+        && string != 3
+        && (string != 2 || symbol == 1)
+        && (kind != kind::STRING_LITERAL || facts == LITERAL_FACTS)
+}
+
+/// "Other subs are 0."
+const fn is_sub_good(kind: u8, sub: u8) -> bool {
+    match kind {
+        kind::PROPERTY => sub <= sub::KEY_AND_VALUE,
+        kind::UNARY => sub::VOID <= sub && sub <= sub::OTHER_UNARY,
+        kind::BINARY => sub::COMPARISON <= sub && sub <= sub::OTHER_BINARY,
+        kind::CLASS => sub <= sub::CLASS_DECORATED | sub::CLASS_HERITAGE,
+        kind::ELEMENT => is_element_sub_good(sub),
+        _ => sub == 0,
+    }
+}
+
+/// "Forms 4 and 5 have bits 3–6 clear; bit 7 only form 4; bit 6 only forms 2 and 3."
+const fn is_element_sub_good(sub: u8) -> bool {
+    let bits = sub & !element::FORM;
+    match sub & element::FORM {
+        element::METHOD => bits & (element::VALUE | element::BLOCK_NONEMPTY) == 0,
+        element::PROPERTY | element::ACCESSOR => bits & element::BLOCK_NONEMPTY == 0,
+        element::STATIC_BLOCK => bits & !element::BLOCK_NONEMPTY == 0,
+        element::INDEX_SIGNATURE => bits == 0,
+        _ => false,
+    }
+}
+
+/// "7 child counts, subtree sizes (the root's is N), or a kind where it may not stand; 8 depth
+/// over 64 (root 1)." Every record's children, walked by their sizes, end exactly at its own end;
+/// with the root's size this makes the records one tree. Each record is a child once, and gets its
+/// depth then.
+fn check_shape(tree: Tree, max_depth: usize) -> Result<(), u8> {
+    if tree.size(0) != tree.records.len() || !EXPRESSIONS.has(tree.kind(0)) {
+        return Err(7);
+    }
+    let mut depths = [1; MAX_RECORDS];
+    let mut deepest = 1;
+    for i in 0..tree.records.len() {
+        deepest = deepest.max(depths[i]);
+        if !are_children_good(tree, i, &mut depths) {
+            return Err(7);
+        }
+    }
+    if usize::from(deepest) > max_depth.min(MAX_DEPTH) { Err(8) } else { Ok(()) }
+}
+
+fn are_children_good(tree: Tree, i: usize, depths: &mut [u8; MAX_RECORDS]) -> bool {
+    let under = &UNDER[tree.kind(i) as usize];
+    let (end, count) = (tree.after(i), tree.count(i));
+    if end > tree.records.len() || !under.is_count_good(count, tree.sub(i)) {
+        return false;
+    }
+    // Depths beyond every limit are as good as 255.
+    let depth = depths[i].saturating_add(1);
+    let mut allowed = under.first(tree.sub(i));
+    let mut child = i + 1;
+    for _ in 0..count {
+        if child >= end || !allowed.has(tree.kind(child)) {
+            return false;
+        }
+        depths[child] = depth;
+        child = tree.after(child);
+        allowed = under.kinds;
+    }
+    child == end
+}
+
+/// A set of kinds.
+#[derive(Clone, Copy)]
+struct Kinds(u32);
+
+impl Kinds {
+    #[inline]
+    fn has(self, kind: u8) -> bool {
+        self.0 >> kind & 1 != 0
+    }
+
+    const fn of(kinds: &[u8]) -> Kinds {
+        let mut set = 0;
+        let mut i = 0;
+        while i < kinds.len() {
+            set |= 1 << kinds[i];
+            i += 1;
+        }
+        Kinds(set)
+    }
+
+    const fn and(self, other: Kinds) -> Kinds {
+        Kinds(self.0 | other.0)
+    }
+}
+
+/// Kinds 20 to 22 are refused before the shape is tested.
+const EXPRESSIONS: Kinds = Kinds::of(&[
+    kind::STRING_LITERAL,
+    kind::IDENTIFIER,
+    kind::FUNCTION,
+    kind::ARROW,
+    kind::OTHER_LEAF,
+    kind::THIS,
+    kind::ARRAY,
+    kind::OBJECT,
+    kind::TEMPLATE,
+    kind::SEQUENCE,
+    kind::UNARY,
+    kind::BINARY,
+    kind::CALL,
+    kind::NEW,
+    kind::CLASS,
+]);
+
+/// What may stand under a node of some kind.
+#[derive(Clone, Copy)]
+struct Under {
+    /// How many children there are at least, besides those that bits of the sub call for.
+    least: u32,
+    /// Whether there may be more.
+    open: bool,
+    bits: u8,
+    kinds: Kinds,
+    /// The first child is an expression: always, or where this bit of the sub is set.
+    first_is_expression: u8,
+}
+
+const ALWAYS: u8 = 255;
+
+impl Under {
+    const fn exactly(least: u32) -> Under {
+        Under { least, open: false, bits: 0, kinds: EXPRESSIONS, first_is_expression: ALWAYS }
+    }
+
+    const fn list(kinds: Kinds) -> Under {
+        Under { least: 0, open: true, bits: 0, kinds, first_is_expression: 0 }
+    }
+
+    #[inline]
+    fn is_count_good(&self, count: u16, sub: u8) -> bool {
+        let least = self.least + (sub & self.bits).count_ones();
+        let count = u32::from(count);
+        count == least || self.open && count > least
+    }
+
+    #[inline]
+    fn first(&self, sub: u8) -> Kinds {
+        let is_expression = (sub | 128) & self.first_is_expression != 0;
+        if is_expression { EXPRESSIONS } else { self.kinds }
+    }
+}
+
+/// "Children: leaves, this and elision have none; spread and unary one; binary two; call and new
+/// at least one; others as above. An array takes expressions, spreads, elisions; arguments are
+/// expressions or spreads; an object has only spreads and properties, a class its heritage, then
+/// only elements. Every other child, and the root, is an expression."
+static UNDER: [Under; KINDS] = {
+    let mut under = [Under::exactly(0); KINDS];
+    let spreads = Kinds::of(&[kind::SPREAD]);
+    let arguments =
+        Under { least: 1, first_is_expression: ALWAYS, ..Under::list(EXPRESSIONS.and(spreads)) };
+    let of_array = EXPRESSIONS.and(spreads).and(Kinds::of(&[kind::ELISION]));
+    under[kind::ARRAY as usize] = Under::list(of_array);
+    under[kind::SPREAD as usize] = Under::exactly(1);
+    under[kind::OBJECT as usize] = Under::list(Kinds::of(&[kind::SPREAD, kind::PROPERTY]));
+    under[kind::PROPERTY as usize] = Under { bits: sub::KEY_AND_VALUE, ..Under::exactly(1) };
+    under[kind::TEMPLATE as usize] = Under::list(EXPRESSIONS);
+    under[kind::SEQUENCE as usize] = Under::list(EXPRESSIONS);
+    under[kind::UNARY as usize] = Under::exactly(1);
+    under[kind::BINARY as usize] = Under::exactly(2);
+    under[kind::CALL as usize] = arguments;
+    under[kind::NEW as usize] = arguments;
+    under[kind::CLASS as usize] = Under {
+        bits: sub::CLASS_HERITAGE,
+        first_is_expression: sub::CLASS_HERITAGE,
+        ..Under::list(Kinds::of(&[kind::ELEMENT]))
+    };
+    let element_children = element::COMPUTED_KEY | element::VALUE;
+    under[kind::ELEMENT as usize] = Under { bits: element_children, ..Under::exactly(0) };
+    under
+};
