@@ -1,7 +1,9 @@
 -- What the check answers: document 01's number and values for every case.
-use mathlib.Core.Path.{_≡_, refl}
+use mathlib.Core.Path.{_≡_, refl, sym, ap, _∙_}
 use mathlib.Core.List.{List, [], _∷_}
 use Prim.Native.Nat.{ℕ, zero, suc}
+use native.Mathlib.Omega.{arith}
+use lib.ListN.{length, getD}
 use Rattle.stated.specs.Stated.{Stated, refused, answered, injective-by}
 use Rattle.tree.specs.Fields.{settingsOf, countOf}
 use Rattle.tree.specs.Refusal.{Limits, refusal}
@@ -43,3 +45,23 @@ stated-injective = injective-by stated checkedOf read
     read : (a : Checked) → checkedOf (stated a) ≡ a
     read (Refused n) = refl
     read (Accepted s n) = refl
+
+-- What the check's answer says of the refusal.
+pub verdict-refused : (limits : Limits) (s : List ℕ) (n : ℕ) → refused n ≡ verdict limits s → (refusal limits s ≡ n) × (n ≡ 0 → ⊥)
+unfolding verdict
+verdict-refused limits s n e = go (refusal limits s) e
+  where
+    go : (m : ℕ) → refused n ≡ statedOf m s → (m ≡ n) × (n ≡ 0 → ⊥)
+    go zero e = let z : _≡_ {A = List ℕ} [] (settingsOf s ∷ countOf s ∷ []) = ap (λ x. x .values) e in absurd (omega (arith, ap length z))
+    go (suc m) e = let y : n ≡ suc m = ap (λ x. x .number) e in (sym y, λ z. omega arith)
+
+pub verdict-accepted : (limits : Limits) (s : List ℕ) (settings n : ℕ) → answered (settings ∷ n ∷ []) ≡ verdict limits s
+    → (refusal limits s ≡ 0) × (settings ≡ settingsOf s) × (n ≡ countOf s)
+unfolding verdict
+verdict-accepted limits s settings n e = go (refusal limits s) e
+  where
+    go : (m : ℕ) → answered (settings ∷ n ∷ []) ≡ statedOf m s → (m ≡ 0) × (settings ≡ settingsOf s) × (n ≡ countOf s)
+    go zero e =
+        let z : settings ∷ n ∷ [] ≡ settingsOf s ∷ countOf s ∷ [] = ap (λ x. x .values) e in
+        (refl, ap (λ l. getD l 0 0) z, ap (λ l. getD l 1 0) z)
+    go (suc m) e = let z : _≡_ {A = ℕ} 0 (suc m) = ap (λ x. x .number) e in absurd (omega arith)

@@ -1,0 +1,60 @@
+-- What List effects answers: document 01's number and values for every case, and every lent entry.
+use mathlib.Core.Path.{_≡_, refl}
+use mathlib.Core.Bool.{Bool, cond}
+use mathlib.Core.List.{List, [], _∷_, _++_}
+use Prim.Native.Nat.{ℕ, zero, suc, _*_}
+use lib.Dec.{ltb}
+use lib.ListN.{length, drop}
+use Rattle.stated.specs.Stated.{Stated, refused, answered, injective-by}
+use Rattle.tree.specs.Fields.{settingsOf, countOf}
+use Rattle.tree.specs.Refusal.{listEffectsLimits, refusal, treeOf}
+use Rattle.rules.specs.Effects.{effects}
+use Rattle.effects.specs.Listing.{settingsWith}
+use Rattle.effects.specs.declared.Listed.{Listed}
+use Rattle.effects.specs.declared.Listed.the-variants.{Refused, Count}
+
+-- A refusal states its number; a listing its count.
+abbrev pub stated : Listed → Stated
+stated (Refused n) = refused n
+stated (Count n) = answered (n ∷ [])
+
+-- "1–8 likewise, but count to 3,999 and depth to 65; 10 under 2 × N entries lent"
+abbrev pub numberBy : ℕ → Bool → ℕ
+numberBy zero short = cond short 10 0
+numberBy (suc k) short = suc k
+
+unfoldable pub number : List ℕ → ℕ → ℕ
+number s room = numberBy (refusal listEffectsLimits s) (ltb room (2 * countOf s))
+
+-- "a tree's is its root's", "under the file's settings"
+unfoldable pub effectList : List ℕ → List ℕ
+effectList s = effects (settingsWith (settingsOf s)) (treeOf s)
+
+-- "Returns the count, later entries untouched; refused: number, count 0, entries untouched."
+abbrev pub statedOf : ℕ → List ℕ → Stated
+statedOf zero l = answered (length l ∷ [])
+statedOf (suc k) l = refused (suc k)
+
+abbrev pub entriesOf : ℕ → List ℕ → List ℕ → List ℕ
+entriesOf zero l old = l ++ drop (length l) old
+entriesOf (suc k) l old = old
+
+pub record Answers (s old new : List ℕ) (r : Listed) : Type 0 where
+  pub answer : stated r ≡ statedOf (number s (length old)) (effectList s)
+  pub entries : new ≡ entriesOf (number s (length old)) (effectList s) old
+
+-- An answer is determined by what it states, since it can be read back.
+listedOf : Stated → Listed
+listedOf s = from (s .number) (s .values)
+  where
+    from : ℕ → List ℕ → Listed
+    from n [] = Refused n
+    from n (v ∷ vs) = Count v
+
+pub stated-injective : (a b : Listed) → stated a ≡ stated b → a ≡ b
+unfolding listedOf
+stated-injective = injective-by stated listedOf read
+  where
+    read : (a : Listed) → listedOf (stated a) ≡ a
+    read (Refused n) = refl
+    read (Count n) = refl

@@ -1,0 +1,64 @@
+-- One entry of the list, and the records of a node's first child.
+use mathlib.Core.Path.{_≡_, refl, sym, ap, ap₂, _∙_}
+use mathlib.Core.Bool.{Bool, true, false, true≢false}
+use mathlib.Core.List.{List, [], _∷_}
+use Prim.Native.Nat.{ℕ, zero, suc, _+_, _*_, _<_, _≤_}
+use native.Mathlib.Nat.{add-zero}
+use native.Mathlib.Omega.{arith}
+use lib.ListN.{length, set}
+use Rattle.tree.specs.Tree.{Head, Tree}
+use Rattle.tree.specs.Fields.{start, headAt, subtreeAt}
+use Rattle.rules.specs.Lists.{keepIf}
+use Rattle.rules.specs.Facts.{possibleSymbol}
+use Rattle.rules.specs.Effects.{itself, itselfIf, coercion, coercionNumber}
+use Rattle.readings.specs.Node.{Node}
+use Rattle.effects.specs.Listing.{Wrote, wrote-as}
+
+-- "An effect is place × 512 + kind × 2 + 1 if a coercion"
+abbrev pub effectAt : List ℕ → ℕ → ℕ → ℕ
+effectAt s at coercion = headAt s at .place * 512 + headAt s at .kind * 2 + coercion
+
+pub record GivenEntry (s : List ℕ) (at : ℕ) (when : Bool) (coercion pos room : ℕ) : Type 0 where
+  pub inside : start (at + 1) ≤ length s
+  pub small : coercion < 2
+  pub fits : when ≡ true → pos < room
+
+pub effect-itself : {s : List ℕ} {at : ℕ} {t : Tree} → Node s at t → effectAt s at 0 ≡ itself t
+unfolding itself
+effect-itself {s} {at} {t} n = add-zero (headAt s at .place * 512 + headAt s at .kind * 2) ∙ ap (λ (h : Head). h .place * 512 + h .kind * 2) (n .stands .0)
+
+pub effect-coercion : {s : List ℕ} {at : ℕ} {t : Tree} → Node s at t → effectAt s at 1 ≡ coercionNumber t
+unfolding itself coercionNumber
+effect-coercion {s} {at} {t} n = ap (λ (h : Head). h .place * 512 + h .kind * 2 + 1) (n .stands .0)
+
+-- The records that the first `has` children take, none or one.
+abbrev pub firstSize : List ℕ → ℕ → ℕ → ℕ
+firstSize s at zero = 0
+firstSize s at (suc n) = subtreeAt s (at + 1)
+
+pub record GivenFirst (s : List ℕ) (at has : ℕ) : Type 0 where
+  pub inside : 1 ≤ has → start (at + 2) ≤ length s
+
+pub first-some : (s : List ℕ) (at has : ℕ) → (has ≡ 0 → ⊥) → subtreeAt s (at + 1) ≡ firstSize s at has
+first-some s at zero n = absurd (n refl)
+first-some s at (suc has) n = refl
+
+pub wrote-one : (s : List ℕ) (at : ℕ) (old : List ℕ) (pos : ℕ) (coercion : ℕ) {place k : ℕ} → place ≡ headAt s at .place → k ≡ headAt s at .kind
+    → Wrote old (set old pos (place * 512 + k * 2 + coercion)) pos (pos + 1) (effectAt s at coercion ∷ [])
+wrote-one s at old pos coercion ep ek = record { ends = omega arith; entries = rw (ep, ek) }
+
+pub given-entry : {s : List ℕ} {at : ℕ} (when : Bool) {coercion pos room : ℕ} {t : Tree} (x : ℕ)
+    → Node s at t → coercion < 2 → pos + length (keepIf when x) ≤ room → GivenEntry s at when coercion pos room
+given-entry when {pos = pos} {room = room} x n c f = record { inside = omega (arith, n .inside); small = c; fits = λ e. go when e f }
+  where
+    go : (b : Bool) → b ≡ true → pos + length (keepIf b x) ≤ room → pos < room
+    go true e f = omega arith
+    go false e f = absurd (true≢false (sym e))
+
+module _ {s : List ℕ} {at : ℕ} {t : Tree} (n : Node s at t) {a b : List ℕ} {pos next : ℕ} (when : Bool) where
+  pub wrote-itself : Wrote a b pos next (keepIf when (effectAt s at 0)) → Wrote a b pos next (itselfIf when t)
+  wrote-itself w = wrote-as w (ap (keepIf when) (effect-itself n))
+
+  pub wrote-coercion : when ≡ possibleSymbol t → Wrote a b pos next (keepIf when (effectAt s at 1)) → Wrote a b pos next (coercion t)
+  unfolding coercion
+  wrote-coercion e w = wrote-as w (ap₂ keepIf e (effect-coercion n))

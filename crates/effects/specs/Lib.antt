@@ -1,0 +1,12 @@
+pub mod Listing
+pub mod Entry
+pub mod Split
+pub mod Plan
+pub mod Given
+pub mod Children
+pub mod Child
+pub mod Expression
+pub mod Sum
+pub mod Class
+pub mod Answer
+pub mod Run

@@ -1,0 +1,290 @@
+-- What a plan says of a node's effect list, and which plan a node has by its kind.
+use mathlib.Core.Path.{_≡_, refl, sym, ap, ap₂, subst, _∙_}
+use mathlib.Core.Bool.{Bool, true, false, cond, _&&_}
+use mathlib.Core.List.{List, [], _∷_, _++_, map, append-nil}
+use Prim.Native.Nat.{ℕ, _/_, _%_, _<_, _≤_}
+use native.Mathlib.Omega.{arith}
+use lib.Dec.{eqb, leb}
+use lib.ListN.{drop}
+use borrow.Author.Tests.{le-leb, lt-leb, eq-eqb, ne-eqb, eqb-true, leb-true}
+use Rattle.tree.specs.Tree.{Head, Tree, trees, count}
+use Rattle.tree.specs.Children.{childCountOk, nodeOk}
+use Rattle.tree.specs.Children as children
+use Rattle.tree.specs.Fields.{headAt}
+use Rattle.tree.specs.Stands.{node-parts}
+use Rattle.rules.specs.Lists.{concatMap, ofTwo}
+use Rattle.rules.specs.Settings.{Settings, derived}
+use Rattle.rules.specs.Handler.{Handler, handler, isKind, isAddition}
+use Rattle.rules.specs.Facts.{flagged, ofIdentifier, pureNew, pureCall}
+use Rattle.rules.specs.Class.{heritage, elements}
+use Rattle.rules.specs.Effects.{Evaluated, evaluate, effects, effectsOf, effectsBy, itself, itselfIf, coercion, additionEffect, childrenInOrder, classIsEffect}
+use Rattle.rules.specs.Proofs.Lists.{by-cond, take-map, drop-map, concatMap-map}
+use Rattle.rules.specs.Proofs.Unfold.{evaluated, inOrder-is}
+use Rattle.rules.specs.Proofs.Effects.{own, coerced-is}
+use Rattle.readings.specs.Node.{Node, Tells}
+use Rattle.tree.specs.Kind as kind
+use Rattle.effects.specs.declared.plan.Plan.{Plan}
+use Rattle.effects.specs.declared.plan.Plan.the-variants.{Nothing, Itself, Children, ChildrenThenItself, Coerced, Arguments, Addition, Class}
+
+-- The effect list of a node by its plan.
+abbrev pub planned : Plan → Settings → Tree → List ℕ
+planned Nothing s t = []
+planned Itself s t = itself t ∷ []
+planned Children s t = effectsOf s (trees (t .kids))
+planned ChildrenThenItself s t = effectsOf s (trees (t .kids)) ++ (itself t ∷ [])
+planned Coerced s t = concatMap (λ c. effects s c ++ coercion c) (trees (t .kids))
+planned Arguments s t = effectsOf s (drop 1 (trees (t .kids)))
+planned Addition s t = effectsOf s (trees (t .kids)) ++ ofTwo (additionEffect t) (itselfIf (flagged t) t) (trees (t .kids))
+planned Class s t =
+    effectsOf s (heritage t)
+    ++ (itselfIf (classIsEffect t) t
+    ++ (concatMap (λ e. evaluate s e .key) (elements t) ++ concatMap (λ e. evaluate s e .static) (elements t)))
+
+abbrev pub itselfOr : Bool → Plan
+itselfOr true = Itself
+itselfOr false = Nothing
+
+-- The children that a plan counts on.
+abbrev pub HasChildren : Plan → Tree → Type 0
+HasChildren Nothing t = Unit {0}
+HasChildren Itself t = Unit {0}
+HasChildren Children t = Unit {0}
+HasChildren ChildrenThenItself t = Unit {0}
+HasChildren Coerced t = Unit {0}
+HasChildren Arguments t = 1 ≤ count (t .kids)
+HasChildren Addition t = (t .head .kind ≡ kind.binary) × (t .head .sub ≡ 2) × (count (t .kids) ≡ 2)
+HasChildren Class t = (t .head .kind ≡ kind.class) × (children.heritage (t .head) ≤ count (t .kids))
+
+pub record Planned (s : Settings) (t : Tree) (p : Plan) : Type 0 where
+  pub is : effects s t ≡ planned p s t
+  pub has : HasChildren p t
+
+pub record Plans (b : List ℕ) (i : ℕ) (s : Settings) (p : Plan) : Type 0 where
+  pub by : (t : Tree) → Node b i t → nodeOk (t .head) (t .kids) ≡ true → Planned s t p
+
+-- The same of a node of one kind.
+pub record PlansOf (k : ℕ) (b : List ℕ) (i : ℕ) (s : Settings) (p : Plan) : Type 0 where
+  pub by : (t : Tree) → Node b i t → nodeOk (t .head) (t .kids) ≡ true → t .head .kind ≡ k → Planned s t p
+
+-- A node whose own effect, if it is flagged, follows its children.
+pub record PlansAfter (b : List ℕ) (i : ℕ) (s : Settings) (p : Plan) : Type 0 where
+  pub by : (t : Tree) → Node b i t → effects s t ≡ effectsOf s (trees (t .kids)) ++ itselfIf (flagged t) t → Planned s t p
+
+two-evaluated : (s : Settings) (f : Tree → Tree → List ℕ) (other : List ℕ) (xs : List Tree)
+    → ofTwo (λ l r. f (l .tree) (r .tree)) other (map (evaluated s) xs) ≡ ofTwo f other xs
+two-evaluated s f other [] = refl
+two-evaluated s f other (x ∷ []) = refl
+two-evaluated s f other (x ∷ y ∷ []) = refl
+two-evaluated s f other (x ∷ y ∷ z ∷ zs) = refl
+
+-- Kinds of which only the children are listed.
+abbrev others : ℕ → Handler
+others k =
+    cond (eqb k kind.array) Handler.array
+    (cond (eqb k kind.object) Handler.object
+    (cond (eqb k kind.property) Handler.property
+    (cond (eqb k kind.sequence) Handler.sequence (cond (eqb k kind.element) Handler.element Handler.leftOut))))
+
+others-in-order : (s : Settings) (t : Tree) (cs : List Evaluated) (k : ℕ) → effectsBy (others k) s t cs ≡ childrenInOrder cs
+others-in-order s t cs k =
+    by-cond P (eqb k kind.array) Handler.array (cond (eqb k kind.object) Handler.object (cond (eqb k kind.property) Handler.property (cond (eqb k kind.sequence) Handler.sequence (cond (eqb k kind.element) Handler.element Handler.leftOut)))) (λ _. refl)
+    (λ _. by-cond P (eqb k kind.object) Handler.object (cond (eqb k kind.property) Handler.property (cond (eqb k kind.sequence) Handler.sequence (cond (eqb k kind.element) Handler.element Handler.leftOut))) (λ _. refl)
+    (λ _. by-cond P (eqb k kind.property) Handler.property (cond (eqb k kind.sequence) Handler.sequence (cond (eqb k kind.element) Handler.element Handler.leftOut)) (λ _. refl)
+    (λ _. by-cond P (eqb k kind.sequence) Handler.sequence (cond (eqb k kind.element) Handler.element Handler.leftOut) (λ _. refl)
+    (λ _. by-cond P (eqb k kind.element) Handler.element Handler.leftOut (λ _. refl) (λ _. refl)))))
+  where
+    P : Handler → Type 0
+    P h = effectsBy h s t cs ≡ childrenInOrder cs
+
+module _ (s : Settings) (t : Tree) where
+  abbrev ts : List Tree
+  ts = trees (t .kids)
+
+  pub plan-flagged : flagged t ≡ true → effects s t ≡ effectsOf s (trees (t .kids)) ++ itselfIf (flagged t) t → Planned s t ChildrenThenItself
+  plan-flagged f e = record { is = e ∙ rw f; has = tt }
+
+  pub plan-clear : flagged t ≡ false → effects s t ≡ effectsOf s (trees (t .kids)) ++ itselfIf (flagged t) t → Planned s t Children
+  plan-clear f e = record { is = e ∙ rw f (append-nil (effectsOf s ts)); has = tt }
+
+  -- Handlers whose effects are the children in order, and then themselves if flagged.
+  after-children : (k : Handler) → handler (t .head) ≡ k
+      → effectsBy k s t (map (evaluated s) ts) ≡ childrenInOrder (map (evaluated s) ts) ++ itselfIf (flagged t) t
+      → effects s t ≡ effectsOf s ts ++ itselfIf (flagged t) t
+  after-children k e f = own s t k e ∙ f ∙ ap (λ (l : List ℕ). l ++ itselfIf (flagged t) t) (inOrder-is s ts)
+
+  in-order : (k : Handler) → handler (t .head) ≡ k → effectsBy k s t (map (evaluated s) ts) ≡ childrenInOrder (map (evaluated s) ts) → Planned s t Children
+  in-order k e f = record { is = own s t k e ∙ f ∙ inOrder-is s ts; has = tt }
+
+  arguments-is : childrenInOrder (drop 1 (map (evaluated s) ts)) ≡ effectsOf s (drop 1 ts)
+  arguments-is = rw (drop-map (evaluated s)) (inOrder-is s (drop 1 ts))
+
+  -- A class by the parts of its elements.
+  class-parts : effectsBy Handler.class s t (map (evaluated s) ts) ≡ planned Class s t
+  class-parts =
+      rw (take-map (evaluated s), drop-map (evaluated s), inOrder-is s (heritage t))
+      (ap (λ (l : List ℕ). effectsOf s (heritage t) ++ (itselfIf (classIsEffect t) t ++ l))
+      (ap₂ (_++_) (concatMap-map (λ e. e .result .key) (evaluated s) (elements t)) (concatMap-map (λ e. e .result .static) (evaluated s) (elements t))))
+
+  -- A node that is an effect by itself, if at all.
+  itself-or : (p : Plan) (b : Bool) → p ≡ itselfOr b → effects s t ≡ itselfIf b t → Planned s t p
+  itself-or p b q e = subst (λ (x : Plan). Planned s t x) (sym q) (go b e)
+    where
+      go : (b : Bool) → effects s t ≡ itselfIf b t → Planned s t (itselfOr b)
+      go true e = record { is = e; has = tt }
+      go false e = record { is = e; has = tt }
+
+  module _ (k : ℕ) (ek : k ≡ t .head .kind) where
+    -- Leaves.
+    leaf-handled : (k ≡ 0 → ⊥) → k ≤ 5 → handler (t .head) ≡ Handler.leaf
+    unfolding handler
+    leaf-handled n l =
+        let a : leb 1 (t .head .kind) ≡ true = le-leb 1 (t .head .kind) (omega arith) in
+        let b : leb (t .head .kind) 5 ≡ true = le-leb (t .head .kind) 5 (omega arith) in
+        rw (a, b)
+
+    pub plan-leaf : (k ≡ 0 → ⊥) → k ≤ 5 → (p : Plan) (b : Bool) → p ≡ itselfOr b → b ≡ flagged t → Planned s t p
+    plan-leaf n l p b e f = itself-or p b (e) (own s t Handler.leaf (leaf-handled n l) ∙ rw (← f))
+
+    pub plan-zero : k ≡ 0 → Planned s t Children
+    unfolding handler
+    plan-zero e = in-order Handler.leftOut (rw (sym ek ∙ e)) refl
+
+    -- This.
+    pub plan-this : k ≡ kind.this → (p : Plan) (b : Bool) → p ≡ itselfOr b → b ≡ derived s → Planned s t p
+    unfolding handler
+    plan-this e p b q d = itself-or p b q (own s t Handler.this (rw (sym ek ∙ e)) ∙ rw (← d))
+
+    pub plan-elision : k ≡ kind.elision → Planned s t Nothing
+    unfolding handler
+    plan-elision e = record { is = own s t Handler.elision (rw (sym ek ∙ e)); has = tt }
+
+    pub after-spread : k ≡ kind.spread → effects s t ≡ effectsOf s ts ++ itselfIf (flagged t) t
+    unfolding handler
+    after-spread e = after-children Handler.spread (rw (sym ek ∙ e)) refl
+
+    pub plan-template : k ≡ kind.template → Planned s t Coerced
+    unfolding handler
+    plan-template e = record { is = own s t Handler.template (rw (sym ek ∙ e)) ∙ coerced-is s ts; has = tt }
+
+    -- Unary, by its sub u.
+    module _ (e : k ≡ kind.unary) (u : ℕ) (eu : u ≡ t .head .sub) where
+      unary-handled : (h : Handler) → handler (record { kind = 14; facts = 0; sub = u; reserved = 0; text = 0; place = 0 }) ≡ h → handler (t .head) ≡ h
+      unfolding handler
+      unary-handled h x = rw (sym ek ∙ e, ← eu) x
+
+      pub plan-void : u ≡ 1 → Planned s t Children
+      unfolding handler
+      plan-void x = in-order Handler.voidOrNot (unary-handled Handler.voidOrNot (rw x)) refl
+
+      pub plan-not : u ≡ 2 → Planned s t Children
+      unfolding handler
+      plan-not x = in-order Handler.voidOrNot (unary-handled Handler.voidOrNot (rw x)) refl
+
+      pub plan-typeof-identifier : u ≡ 3 → ofIdentifier t ≡ true → Planned s t Nothing
+      unfolding handler
+      plan-typeof-identifier x o = record { is = own s t Handler.typeof (unary-handled Handler.typeof (rw x)) ∙ rw o; has = tt }
+
+      pub plan-typeof : u ≡ 3 → ofIdentifier t ≡ false → Planned s t Children
+      unfolding handler
+      plan-typeof x o = in-order Handler.typeof (unary-handled Handler.typeof (rw x)) (rw o)
+
+      pub after-unary : (u ≡ 1 → ⊥) → (u ≡ 2 → ⊥) → (u ≡ 3 → ⊥) → effects s t ≡ effectsOf s ts ++ itselfIf (flagged t) t
+      unfolding handler
+      after-unary x y z = after-children Handler.otherUnary (unary-handled Handler.otherUnary (rw (ne-eqb u 1 x, ne-eqb u 2 y, ne-eqb u 3 z))) refl
+
+    -- Binary, by its sub u.
+    module _ (e : k ≡ kind.binary) (u : ℕ) (eu : u ≡ t .head .sub) where
+      binary-handled : (h : Handler) → handler (record { kind = 15; facts = 0; sub = u; reserved = 0; text = 0; place = 0 }) ≡ h → handler (t .head) ≡ h
+      unfolding handler
+      binary-handled h x = rw (sym ek ∙ e, ← eu) x
+
+      pub plan-comparison : u ≡ 1 → Planned s t Children
+      unfolding handler
+      plan-comparison x = in-order Handler.comparison (binary-handled Handler.comparison (rw x)) refl
+
+      pub plan-addition : nodeOk (t .head) (t .kids) ≡ true → u ≡ 2 → Planned s t Addition
+      unfolding handler childCountOk
+      plan-addition w x =
+          let h = binary-handled Handler.addition (rw x) in
+          let c : childCountOk (t .head) (count (t .kids)) ≡ true = node-parts (t .head) (t .kids) w .counted in
+          let d : eqb (count (t .kids)) 2 ≡ true = rw (sym ek ∙ e) at c in
+          record { is = own s t Handler.addition h ∙ ap₂ (_++_) (inOrder-is s ts) (two-evaluated s (additionEffect t) (itselfIf (flagged t) t) ts); has = (sym ek ∙ e, sym eu ∙ x, eqb-true (count (t .kids)) 2 d) }
+
+      pub after-binary : (u ≡ 1 → ⊥) → (u ≡ 2 → ⊥) → effects s t ≡ effectsOf s ts ++ itselfIf (flagged t) t
+      unfolding handler
+      after-binary x y = after-children Handler.otherBinary (binary-handled Handler.otherBinary (rw (ne-eqb u 1 x, ne-eqb u 2 y))) refl
+
+    -- Calls and news.
+    pub plan-call : nodeOk (t .head) (t .kids) ≡ true → k ≡ kind.call → pureCall s t ≡ true → Planned s t Arguments
+    unfolding handler childCountOk
+    plan-call w e p =
+        let c : childCountOk (t .head) (count (t .kids)) ≡ true = node-parts (t .head) (t .kids) w .counted in
+        let d : leb 1 (count (t .kids)) ≡ true = rw (sym ek ∙ e) at c in
+        record { is = own s t Handler.call (rw (sym ek ∙ e)) ∙ rw p (arguments-is); has = leb-true 1 (count (t .kids)) d }
+
+    pub after-call : k ≡ kind.call → pureCall s t ≡ false → effects s t ≡ effectsOf s ts ++ itselfIf (flagged t) t
+    unfolding handler
+    after-call e p = after-children Handler.call (rw (sym ek ∙ e)) (rw p)
+
+    pub plan-new : nodeOk (t .head) (t .kids) ≡ true → k ≡ kind.new → pureNew s t ≡ true → Planned s t Arguments
+    unfolding handler childCountOk
+    plan-new w e p =
+        let c : childCountOk (t .head) (count (t .kids)) ≡ true = node-parts (t .head) (t .kids) w .counted in
+        let d : leb 1 (count (t .kids)) ≡ true = rw (sym ek ∙ e) at c in
+        record { is = own s t Handler.new (rw (sym ek ∙ e)) ∙ rw p (arguments-is); has = leb-true 1 (count (t .kids)) d }
+
+    pub after-new : k ≡ kind.new → pureNew s t ≡ false → effects s t ≡ effectsOf s ts ++ itselfIf (flagged t) t
+    unfolding handler
+    after-new e p = after-children Handler.new (rw (sym ek ∙ e)) (rw p)
+
+    pub plan-class : nodeOk (t .head) (t .kids) ≡ true → k ≡ kind.class → Planned s t Class
+    unfolding handler childCountOk
+    plan-class w e =
+        let c : childCountOk (t .head) (count (t .kids)) ≡ true = node-parts (t .head) (t .kids) w .counted in
+        let d : leb (children.heritage (t .head)) (count (t .kids)) ≡ true = rw (sym ek ∙ e) at c in
+        record {
+          is = own s t Handler.class (rw (sym ek ∙ e)) ∙ class-parts;
+          has = (sym ek ∙ e, leb-true (children.heritage (t .head)) (count (t .kids)) d);
+        }
+
+    -- Arrays, objects, properties, sequences and the rest.
+    pub plan-other : 5 < k → (k ≡ kind.this → ⊥) → (k ≡ kind.elision → ⊥) → (k ≡ kind.spread → ⊥) → (k ≡ kind.template → ⊥)
+        → (k ≡ kind.unary → ⊥) → (k ≡ kind.binary → ⊥) → (k ≡ kind.call → ⊥) → (k ≡ kind.new → ⊥) → (k ≡ kind.class → ⊥) → Planned s t Children
+    unfolding handler
+    plan-other l a b c d e f g h i =
+        let e′ : handler (t .head) ≡ others k =
+        rw (
+          ← ek,
+          le-leb 1 k (omega arith),
+          lt-leb k 5 l,
+          ne-eqb k kind.this a,
+          ne-eqb k kind.elision b,
+          ne-eqb k kind.spread c,
+          ne-eqb k kind.template d,
+          ne-eqb k kind.unary e,
+          ne-eqb k kind.binary f,
+          ne-eqb k kind.call g,
+          ne-eqb k kind.new h,
+          ne-eqb k kind.class i,
+        ) in
+        in-order (others k) e′ (others-in-order s t (map (evaluated s) ts) k)
+
+-- The tests of a record for an addition.
+module _ {b : List ℕ} {i : ℕ} (k : ℕ) (ek : k ≡ headAt b i .kind) where
+  pub no-addition : (k ≡ kind.binary → ⊥) → Tells b i isAddition false
+  unfolding isAddition isKind
+  no-addition n = record { by = λ t d. sym (rw (ne-eqb (t .head .kind) kind.binary (λ e. n (ek ∙ ap (λ (h : Head). h .kind) (d .stands .0) ∙ e)))) }
+
+  pub addition-by-sub : k ≡ kind.binary → (u : ℕ) → u ≡ headAt b i .sub → Tells b i isAddition (eqb u 2)
+  unfolding isAddition isKind
+  addition-by-sub e u eu = record {
+    by = λ t d.
+        let x : t .head .kind ≡ kind.binary = sym (ek ∙ ap (λ (h : Head). h .kind) (d .stands .0)) ∙ e in
+        let y : u ≡ t .head .sub = eu ∙ ap (λ (h : Head). h .sub) (d .stands .0) in
+        ap (λ (z : ℕ). eqb z 2) y ∙ sym (ap (λ (w : Bool). w && eqb (t .head .sub) 2) (eq-eqb (t .head .kind) kind.binary x));
+  }
+
+-- The derived setting, as the code reads it.
+pub derived-is : (n : ℕ) → eqb (n / 4 % 2) 1 ≡ derived (record { byte = n })
+unfolding derived
+derived-is n = refl

@@ -1,0 +1,105 @@
+-- The operation: from the check's answer to the list.
+use mathlib.Core.Path.{_≡_, refl, sym, ap, _∙_}
+use mathlib.Core.Bool.{true, false, _&&_}
+use mathlib.Core.List.{List, [], _∷_, _++_}
+use Prim.Native.Nat.{ℕ, zero, suc, _+_, _*_, _<_, _≤_}
+use native.Mathlib.Omega.{arith}
+use native.Mathlib.Nat.{zero-add}
+use lib.Dec.{ltb}
+use lib.ListN.{length, drop}
+use lib.Seq.{sets, sets-eq}
+use borrow.Author.Tests.{lt-ltb, le-ltb}
+use Rattle.stated.specs.Stated.{refused, answered}
+use Rattle.tree.specs.Tree.{Tree, one, size}
+use Rattle.tree.specs.Below.{and-both, and-left, and-right}
+use Rattle.tree.specs.Children.{nodeOk, formed, wellFormed}
+use Rattle.tree.specs.Fields.{settingsOf, countOf}
+use Rattle.tree.specs.Refusal.{listEffectsLimits, refusal, treeOf}
+use Rattle.tree.specs.Encoding.{Bytes}
+use Rattle.tree.specs.Accepted.{passed, counted-parts, Accepted, accepted}
+use Rattle.file.specs.Answer.{verdict, verdict-refused, verdict-accepted}
+use Rattle.rules.specs.Effects.{effects}
+use Rattle.rules.specs.Proofs.Counts.{few}
+use Rattle.effects.specs.Listing.{settingsWith, Input, GivenTree, ListedTree}
+use Rattle.effects.specs.Answer.{number, effectList, Answers}
+use Rattle.effects.specs.declared.listing.Part.the-variants.{InOrder}
+use Rattle.effects.specs.declared.Listed.the-variants.{Refused, Count}
+use Rattle.tree.specs.Kind as kind
+
+pub refused-file : (s : List ℕ) (n : ℕ) {old : List ℕ} → refused n ≡ verdict listEffectsLimits s → Answers s old old (Refused n)
+unfolding number
+refused-file s n {old} e = go n (verdict-refused listEffectsLimits s n e .0) (verdict-refused listEffectsLimits s n e .1)
+  where
+    go : (m : ℕ) → refusal listEffectsLimits s ≡ m → (m ≡ 0 → ⊥) → Answers s old old (Refused m)
+    go zero r z = absurd (z refl)
+    go (suc m) r z = record { answer = rw r; entries = rw r }
+
+-- An accepted file.
+module _ (s : List ℕ) (st n : ℕ) (e : answered (st ∷ n ∷ []) ≡ verdict listEffectsLimits s) where
+  is-zero : refusal listEffectsLimits s ≡ 0
+  is-zero = verdict-accepted listEffectsLimits s st n e .0
+
+  is-settings : st ≡ settingsOf s
+  is-settings = verdict-accepted listEffectsLimits s st n e .1
+
+  is-count : n ≡ countOf s
+  is-count = verdict-accepted listEffectsLimits s st n e .2
+
+  pub count-few : n ≤ 3999
+  count-few = omega (arith, is-count, counted-parts (listEffectsLimits .records) s (passed listEffectsLimits s is-zero .counted) .few)
+
+  pub refused-room : {old : List ℕ} → length old < 2 * n → Answers s old old (Refused 10)
+  unfolding number
+  refused-room {old} l =
+      let x : ltb (length old) (2 * countOf s) ≡ true = lt-ltb (length old) (2 * countOf s) (omega (arith, is-count)) in
+      record { answer = rw (is-zero, x); entries = rw (is-zero, x) }
+
+  module _ (bs : Bytes s) where
+    A : Accepted listEffectsLimits s
+    A = accepted listEffectsLimits s bs is-zero
+
+    t : Tree
+    t = treeOf s
+
+    formed-root : formed (one t) ≡ true
+    unfolding t wellFormed formed
+    formed-root =
+        let w = and-right (kind.isExpression (treeOf s .head .kind)) (nodeOk (treeOf s .head) (treeOf s .kids) && formed (treeOf s .kids)) (A .permitted .well) in
+        and-both (and-left (nodeOk (treeOf s .head) (treeOf s .kids)) (formed (treeOf s .kids)) w) (and-both (and-right (nodeOk (treeOf s .head) (treeOf s .kids)) (formed (treeOf s .kids)) w) refl)
+
+    root-input : Input s 0 n 65 (one t)
+    unfolding t
+    root-input = record {
+      holds = record { stands = A .stands; sized = omega (arith, is-count, A .sized) };
+      ok = formed-root;
+      low = omega (arith, A .permitted .low);
+      inside = omega (arith, is-count, counted-parts (listEffectsLimits .records) s (passed listEffectsLimits s is-zero .counted) .long);
+      small = omega (arith, is-count, A .sized, A .permitted .few);
+    }
+
+    root-size : size t ≡ n
+    unfolding t
+    root-size = A .sized ∙ sym is-count
+
+    root-list : effects (settingsWith st) t ≡ effectList s
+    unfolding t effectList
+    root-list = ap (λ (x : ℕ). effects (settingsWith x) (treeOf s)) is-settings
+
+    pub root-given : (room : ℕ) → 2 * n ≤ room → GivenTree s 0 n 65 (settingsWith st) InOrder 0 room
+    root-given room l = record {
+      tree = t;
+      input = root-input;
+      fits = omega (arith, few (settingsWith st) t, root-size);
+    }
+
+    pub counted : {old new : List ℕ} {r : ℕ} → 2 * n ≤ length old → ListedTree s 0 n 65 (settingsWith st) InOrder old new 0 r → Answers s old new (Count r)
+    unfolding number
+    counted {old} {new} {r} l a =
+        let w = a .by t root-input in
+        let x : ltb (length old) (2 * countOf s) ≡ false = le-ltb (length old) (2 * countOf s) (omega (arith, is-count)) in
+        let m : r ≡ length (effectList s) = w .ends ∙ zero-add (length (effects (settingsWith st) t)) ∙ ap length root-list in
+        let h : 0 + length (effectList s) ≤ length old = omega (arith, few (settingsWith st) t, root-size, ap length root-list) in
+        record {
+          answer = rw (is-zero, x, m);
+          entries = rw (is-zero, x) (w .entries ∙ ap (sets old 0) root-list ∙ sets-eq (effectList s) old 0 h ∙ ap (λ (k : ℕ). effectList s ++ drop k old) (zero-add (length (effectList s))));
+        }

@@ -1,0 +1,39 @@
+// One entry of the list, and the records of a node's first child.
+ghost use mathlib.Core.Path.{_≡_};
+ghost use Prim.Native.Nat.{_+_, _<_, _≤_};
+ghost use lib.ListN.{length};
+ghost use Rattle.rules.specs.Lists.{keepIf};
+ghost use Rattle.effects.specs.Listing.{Wrote};
+ghost use Rattle.effects.specs.Entry.{effectAt, GivenEntry, GivenFirst, firstSize};
+
+// Lists the node at record at, or its coercion, where `when` says so.
+pub fn list_if(
+    src: &[u8],
+    at: usize,
+    when: bool,
+    coercion: usize,
+    out: &mut [u64],
+    pos: usize,
+) -> usize
+    requires { ⌜ GivenEntry (now src) at when coercion pos (length (now out)) ⌝ }
+    ensures { λ r. ⌜ Wrote (now (out .entry)) (now (out .exit)) pos r (keepIf when (effectAt (now (src .entry)) at coercion)) ⌝ }
+{
+    if when {
+        out[pos] = (fields::place_at(src, at) * 512
+            + fields::kind_at(src, at) * 2
+            + coercion) as u64;
+        return pos + 1;
+    }
+    pos
+}
+
+// How many records the first `has` children of record at take, none or one.
+pub fn first_size(src: &[u8], at: usize, has: usize) -> usize
+    requires { ⌜ GivenFirst (now src) at has ⌝ }
+    ensures { λ r. ⌜ r ≡ firstSize (now (src .entry)) at has ⌝ }
+{
+    if has == 0 {
+        return 0;
+    }
+    fields::subtree_at(src, at + 1)
+}

@@ -1,0 +1,32 @@
+// List effects: the effect list of a tree file, in ECMA-262's order.
+mod entry;
+mod listing;
+mod plan;
+
+use file::Checked;
+ghost use Rattle.effects.specs.Answer.{Answers};
+
+pub enum Listed {
+    // The number of the first refusal that applies; no entry has changed.
+    Refused(u8),
+    // How many effects there are: the first entries are the list, and no other entry has changed.
+    Count(usize),
+}
+
+// Lists the effects of the tree file src in entries.
+pub fn list_effects(src: &[u8], entries: &mut [u64]) -> Listed
+    ensures { λ r. ⌜ Answers (now (src .entry)) (now (entries .entry)) (now (entries .exit)) r ⌝ }
+{
+    let checked = file::check(src, file::LIST_EFFECTS_RECORDS, file::LIST_EFFECTS_DEPTH);
+    match checked {
+        Checked::Refused(number) => Listed::Refused(number),
+        Checked::Accepted { settings, count } => {
+            if entries.len() < 2 * count {
+                return Listed::Refused(10);
+            }
+            let depth = file::LIST_EFFECTS_DEPTH;
+            let next = listing::list_expr(src, 0, count, depth, settings, entries, 0);
+            Listed::Count(next)
+        }
+    }
+}

@@ -1,0 +1,231 @@
+// The effect list of trees, written from an entry on: an expression lists its children, and a list of children each expression.
+// Remaining depth and remaining records fall at each call; siblings are walked by a loop, so that the stack is bounded by the depth.
+use crate::entry;
+use crate::plan;
+use crate::plan::Plan;
+ghost use mathlib.Core.Path.{_≡_};
+ghost use lib.ListN.{length};
+ghost use Rattle.rules.specs.Effects.{effects};
+ghost use Rattle.effects.specs.Listing.{settingsWith, listedAs, GivenChildren, ListedChildren, GivenTree, ListedTree};
+ghost use Rattle.effects.specs.Sum.{ListedSide, GivenSum};
+ghost use Rattle.effects.specs.Class.{GivenClass};
+
+// What of a child is listed.
+pub enum Part {
+    InOrder,
+    // followed by its coercion
+    Coerced,
+    // of a class element, its computed key
+    Key,
+    // of a class element, its static value or block
+    Static,
+}
+
+// Where a side's effects end, and whether it is a string.
+pub struct Side {
+    pub next: usize,
+    pub string: bool,
+}
+
+// The trees from record at on, in size records.
+fn list_children(
+    src: &[u8],
+    at: usize,
+    size: usize,
+    part: Part,
+    depth: usize,
+    settings: u8,
+    out: &mut [u64],
+    pos: usize,
+) -> usize
+    requires { ⌜ GivenChildren (now src) at size depth (settingsWith settings) part pos (length (now out)) ⌝ }
+    ensures { λ r. ⌜ ListedChildren (now (src .entry)) at size depth (settingsWith settings) part (now (out .entry)) (now (out .exit)) pos r ⌝ }
+{
+    let end = at + size;
+    let mut p = at;
+    let mut next = pos;
+    while p < end {
+        let subtree = fields::subtree_at(src, p);
+        next = list_child(src, p, subtree, part, depth, settings, out, next);
+        p += subtree;
+    }
+    next
+}
+
+// One child, by the part of it that is asked for.
+fn list_child(
+    src: &[u8],
+    at: usize,
+    size: usize,
+    part: Part,
+    depth: usize,
+    settings: u8,
+    out: &mut [u64],
+    pos: usize,
+) -> usize
+    requires { ⌜ GivenTree (now src) at size depth (settingsWith settings) part pos (length (now out)) ⌝ }
+    ensures { λ r. ⌜ ListedTree (now (src .entry)) at size depth (settingsWith settings) part (now (out .entry)) (now (out .exit)) pos r ⌝ }
+{
+    match part {
+        Part::InOrder => list_expr(src, at, size, depth, settings, out, pos),
+        Part::Coerced => {
+            let next = list_expr(src, at, size, depth, settings, out, pos);
+            let symbol = readings::possible_symbol_at(src, at);
+            entry::list_if(src, at, symbol, 1, out, next)
+        }
+        Part::Key => {
+            let key = entry::first_size(src, at, fields::sub_at(src, at) / 16 % 2);
+            let first = at + 1;
+            let below = depth - 1;
+            list_children(src, first, key, Part::InOrder, below, settings, out, pos)
+        }
+        Part::Static => list_static(src, at, size, depth, settings, out, pos),
+    }
+}
+
+// The static value of a class element, or its block.
+fn list_static(
+    src: &[u8],
+    at: usize,
+    size: usize,
+    depth: usize,
+    settings: u8,
+    out: &mut [u64],
+    pos: usize,
+) -> usize
+    requires { ⌜ GivenTree (now src) at size depth (settingsWith settings) Part.Static pos (length (now out)) ⌝ }
+    ensures { λ r. ⌜ ListedTree (now (src .entry)) at size depth (settingsWith settings) Part.Static (now (out .entry)) (now (out .exit)) pos r ⌝ }
+{
+    let block = readings::nonempty_static_block_at(src, at);
+    if readings::has_static_value_at(src, at) {
+        let key = entry::first_size(src, at, fields::sub_at(src, at) / 16 % 2);
+        let value = at + 1 + key;
+        let left = size - 1 - key;
+        let below = depth - 1;
+        let next = list_children(src, value, left, Part::InOrder, below, settings, out, pos);
+        return entry::list_if(src, at, block, 0, out, next);
+    }
+    entry::list_if(src, at, block, 0, out, pos)
+}
+
+pub fn list_expr(
+    src: &[u8],
+    at: usize,
+    size: usize,
+    depth: usize,
+    settings: u8,
+    out: &mut [u64],
+    pos: usize,
+) -> usize
+    requires { ⌜ GivenTree (now src) at size depth (settingsWith settings) Part.InOrder pos (length (now out)) ⌝ }
+    ensures { λ r. ⌜ ListedTree (now (src .entry)) at size depth (settingsWith settings) Part.InOrder (now (out .entry)) (now (out .exit)) pos r ⌝ }
+{
+    let plan = plan::plan_of(src, at, settings);
+    let first = at + 1;
+    let rest = size - 1;
+    let below = depth - 1;
+    match plan {
+        Plan::Nothing => pos,
+        Plan::Itself => entry::list_if(src, at, true, 0, out, pos),
+        Plan::Children => list_children(src, first, rest, Part::InOrder, below, settings, out, pos),
+        Plan::ChildrenThenItself => {
+            let next = list_children(src, first, rest, Part::InOrder, below, settings, out, pos);
+            entry::list_if(src, at, true, 0, out, next)
+        }
+        Plan::Coerced => list_children(src, first, rest, Part::Coerced, below, settings, out, pos),
+        Plan::Arguments => {
+            let callee = entry::first_size(src, at, 1);
+            let start = first + callee;
+            let left = rest - callee;
+            list_children(src, start, left, Part::InOrder, below, settings, out, pos)
+        }
+        Plan::Addition => {
+            let sum = list_addition(src, at, size, depth, settings, out, pos);
+            sum.next
+        }
+        Plan::Class => list_class(src, at, size, depth, settings, out, pos),
+    }
+}
+
+// The left side of an addition: the string answer of an addition comes with its listing.
+fn list_left(
+    src: &[u8],
+    at: usize,
+    size: usize,
+    depth: usize,
+    settings: u8,
+    out: &mut [u64],
+    pos: usize,
+) -> Side
+    requires { ⌜ GivenTree (now src) at size depth (settingsWith settings) Part.InOrder pos (length (now out)) ⌝ }
+    ensures { λ r. ⌜ ListedSide (now (src .entry)) at size depth (settingsWith settings) (now (out .entry)) (now (out .exit)) pos (r .next) (r .string) ⌝ }
+{
+    if plan::is_addition(src, at) {
+        return list_addition(src, at, size, depth, settings, out, pos);
+    }
+    let next = list_expr(src, at, size, depth, settings, out, pos);
+    let string = readings::string_fact_at(src, at);
+    Side { next, string }
+}
+
+fn list_addition(
+    src: &[u8],
+    at: usize,
+    size: usize,
+    depth: usize,
+    settings: u8,
+    out: &mut [u64],
+    pos: usize,
+) -> Side
+    requires { ⌜ GivenSum (now src) at size depth (settingsWith settings) pos (length (now out)) ⌝ }
+    ensures { λ r. ⌜ ListedSide (now (src .entry)) at size depth (settingsWith settings) (now (out .entry)) (now (out .exit)) pos (r .next) (r .string) ⌝ }
+{
+    let left_size = fields::subtree_at(src, at + 1);
+    let left = list_left(src, at + 1, left_size, depth - 1, settings, out, pos);
+    let left_next = left.next;
+    let left_string = left.string;
+    let right = at + 1 + left_size;
+    let right_size = fields::subtree_at(src, right);
+    let sides = list_expr(src, right, right_size, depth - 1, settings, out, left_next);
+    if left_string {
+        let symbol = readings::possible_symbol_at(src, right);
+        let next = entry::list_if(src, right, symbol, 1, out, sides);
+        return Side { next, string: true };
+    }
+    if readings::string_fact_at(src, right) {
+        let symbol = readings::possible_symbol_at(src, at + 1);
+        let next = entry::list_if(src, at + 1, symbol, 1, out, sides);
+        return Side { next, string: true };
+    }
+    let flagged = readings::flagged_at(src, at);
+    let next = entry::list_if(src, at, flagged, 0, out, sides);
+    Side {
+        next,
+        string: false,
+    }
+}
+
+// Heritage, the class itself, all computed keys, then static values and blocks.
+fn list_class(
+    src: &[u8],
+    at: usize,
+    size: usize,
+    depth: usize,
+    settings: u8,
+    out: &mut [u64],
+    pos: usize,
+) -> usize
+    requires { ⌜ GivenClass (now src) at size depth (settingsWith settings) pos (length (now out)) ⌝ }
+    ensures { λ r. ⌜ ListedTree (now (src .entry)) at size depth (settingsWith settings) Part.InOrder (now (out .entry)) (now (out .exit)) pos r ⌝ }
+{
+    let base = entry::first_size(src, at, fields::sub_at(src, at) / 2 % 2);
+    let first = at + 1;
+    let below = depth - 1;
+    let next = list_children(src, first, base, Part::InOrder, below, settings, out, pos);
+    let is_effect = readings::class_is_effect(src, at);
+    let own = entry::list_if(src, at, is_effect, 0, out, next);
+    let from = first + base;
+    let left = size - 1 - base;
+    let keys = list_children(src, from, left, Part::Key, below, settings, out, own);
+    list_children(src, from, left, Part::Static, below, settings, out, keys)
+}

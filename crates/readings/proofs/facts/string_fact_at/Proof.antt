@@ -1,0 +1,18 @@
+use Prim.Native.Nat.{ℕ, _/_, _%_}
+use lib.Dec.{eqb}
+use borrow.Author.Needs.{needs}
+use Rattle.rules.specs.Facts.{stringFact}
+use Rattle.readings.specs.Steps.{tells-facts}
+use Rattle.readings.proofs.facts.string_fact_at.Statement.{statement}
+use Rattle.readings.proofs.facts.string_fact_at.Tie as tie
+
+facts-at-requires : tie.Need-facts-at-requires
+facts-at-requires c κs = search needs
+
+returns : tie.Need-returns
+unfolding stringFact
+returns c = tells-facts (λ (x : ℕ). eqb (x / 8 % 4) 2) (c .facts-at .ensures .0)
+
+pub string-fact-at-spec : {M : Type 1} → statement M
+string-fact-at-spec =
+    tie.close (tie.spec facts-at-requires returns)

@@ -1,0 +1,5 @@
+pub mod Node
+pub mod Steps
+pub mod Walk
+pub mod Sequence
+pub mod Class

@@ -1,0 +1,26 @@
+-- What a reading of the record at i tells of the tree that stands there.
+use mathlib.Core.Path.{_≡_}
+use mathlib.Core.Bool.{Bool}
+use mathlib.Core.List.{List}
+use Prim.Native.Nat.{ℕ, _+_, _≤_}
+use lib.ListN.{length}
+use Rattle.tree.specs.Tree.{Tree, one, size}
+use Rattle.tree.specs.Fields.{start}
+use Rattle.tree.specs.Stands.{Stands}
+
+pub record Node (s : List ℕ) (i : ℕ) (t : Tree) : Type 0 where
+  pub stands : Stands s i (one t)
+  pub inside : start (i + size t) ≤ length s
+
+-- Some tree stands at record i.
+pub record SomeNode (s : List ℕ) (i : ℕ) : Type 0 where
+  pub tree : Tree
+  pub node : Node s i tree
+
+-- r is what p says of the tree that stands at record i.
+pub record Tells (s : List ℕ) (i : ℕ) (p : Tree → Bool) (r : Bool) : Type 0 where
+  pub by : (t : Tree) → Node s i t → r ≡ p t
+
+-- What f makes of the tree that stands at record i is the tree that stands at record r.
+pub record Finds (s : List ℕ) (i : ℕ) (f : Tree → Tree) (r : ℕ) : Type 0 where
+  pub by : (t : Tree) → Node s i t → Node s r (f t)

@@ -1,0 +1,92 @@
+-- The steps of the readings, over the values that the code read.
+use mathlib.Core.Path.{_≡_, refl, sym, ap, _∙_}
+use mathlib.Core.Bool.{Bool, true, false, _&&_, _||_, or-false}
+use mathlib.Core.List.{List}
+use Prim.Native.Nat.{ℕ, suc, _+_, _/_, _%_, _≤_}
+use native.Mathlib.Omega.{arith}
+use lib.Dec.{eqb}
+use lib.ListN.{length, take}
+use borrow.Author.Tests.{eq-eqb, ne-eqb}
+use Rattle.tree.specs.Tree.{Head, Forest, nil, node, Tree, trees, count, records}
+use Rattle.tree.specs.Record.{bitSet}
+use Rattle.tree.specs.Fields.{start, headAt, childrenAt}
+use Rattle.tree.specs.Stands.{Stands}
+use Rattle.rules.specs.Lists.{any}
+use Rattle.rules.specs.Settings.{annotations}
+use Rattle.rules.specs.Handler.{isKind, firstIs}
+use Rattle.rules.specs.Facts.{annotated, listed, pureNew}
+use Rattle.readings.specs.Node.{SomeNode, Tells}
+
+-- What is said of the head that was read is said of the tree's.
+tells-head : {s : List ℕ} {i : ℕ} (p : Head → Bool) {r : Bool} → r ≡ p (headAt s i) → Tells s i (λ t. p (t .head)) r
+tells-head p e = record { by = λ t n. e ∙ ap p (n .stands .0) }
+
+module _ {s : List ℕ} {i x : ℕ} (p : ℕ → Bool) where
+  pub tells-facts : x ≡ headAt s i .facts → Tells s i (λ t. p (t .head .facts)) (p x)
+  tells-facts e = tells-head (λ (h : Head). p (h .facts)) (ap p e)
+
+  pub tells-sub : x ≡ headAt s i .sub → Tells s i (λ t. p (t .head .sub)) (p x)
+  tells-sub e = tells-head (λ (h : Head). p (h .sub)) (ap p e)
+
+-- Tests joined, the second one made only where the first leaves the answer open.
+module _ {s : List ℕ} {i : ℕ} {p : Tree → Bool} {a : Bool} (first : Tells s i p a) (q : Tree → Bool) where
+  pub or-holds : a ≡ true → Tells s i (λ t. p t || q t) true
+  or-holds e = record { by = λ t n. sym (ap (λ (b : Bool). b || q t) (sym (first .by t n) ∙ e)) }
+
+  pub or-else : a ≡ false → {r : Bool} → Tells s i q r → Tells s i (λ t. p t || q t) r
+  or-else e second = record { by = λ t n. second .by t n ∙ sym (ap (λ (b : Bool). b || q t) (sym (first .by t n) ∙ e)) }
+
+  pub and-fails : a ≡ false → Tells s i (λ t. p t && q t) false
+  and-fails e = record { by = λ t n. sym (ap (λ (b : Bool). b && q t) (sym (first .by t n) ∙ e)) }
+
+  pub and-then : a ≡ true → {r : Bool} → Tells s i q r → Tells s i (λ t. p t && q t) r
+  and-then e second = record { by = λ t n. second .by t n ∙ sym (ap (λ (b : Bool). b && q t) (sym (first .by t n) ∙ e)) }
+
+-- The first child, by the child count k.
+module _ {s : List ℕ} {i k : ℕ} (e : k ≡ childrenAt s i) where
+  pub child-inside : SomeNode s i → (k ≡ 0 → ⊥) → start (i + 1 + 1) ≤ length s
+  child-inside n z = go (n .tree .kids) (n .node .stands .1) (n .node .inside)
+    where
+      go : (f : Forest) → childrenAt s i ≡ count f → start (i + suc (records f)) ≤ length s → start (i + 1 + 1) ≤ length s
+      go nil c l = absurd (z (e ∙ c))
+      go (node h cs rest) c l = omega arith
+
+  module _ (kind : ℕ) where
+    pub first-none : k ≡ 0 → Tells s i (firstIs (isKind kind)) false
+    first-none z = record { by = λ t n. go (t .kids) (n .stands .1) }
+      where
+        go : (f : Forest) → childrenAt s i ≡ count f → false ≡ any (isKind kind) (take 1 (trees f))
+        go nil c = refl
+        go (node h cs rest) c = absurd (omega arith)
+
+    pub first-some : (k ≡ 0 → ⊥) → (c : ℕ) → c ≡ headAt s (i + 1) .kind → Tells s i (firstIs (isKind kind)) (eqb c kind)
+    unfolding isKind
+    first-some z c x = record { by = λ t n. go (t .kids) (n .stands .1) (n .stands .3) }
+      where
+        go : (f : Forest) → childrenAt s i ≡ count f → Stands s (i + 1) f → eqb c kind ≡ any (isKind kind) (take 1 (trees f))
+        go nil y d = absurd (z (e ∙ y))
+        go (node h cs rest) y d = ap (λ (a : ℕ). eqb a kind) (x ∙ ap (λ (a : Head). a .kind) (d .0)) ∙ sym (or-false (eqb (h .kind) kind))
+
+-- A pure new, by the settings byte b and the facts f.
+module _ {s : List ℕ} {i : ℕ} (b f : ℕ) (e : f ≡ headAt s i .facts) where
+  pure-facts : {r : Bool} → r ≡ ((bitSet 0 b && bitSet 5 f) || bitSet 6 f) → Tells s i (pureNew (record { byte = b })) r
+  unfolding pureNew annotations annotated listed
+  pure-facts x = rw x (tells-facts (λ (y : ℕ). (bitSet 0 b && bitSet 5 y) || bitSet 6 y) e)
+
+  pub pure-listed : f / 64 % 2 ≡ 1 → Tells s i (pureNew (record { byte = b })) true
+  pure-listed l = pure-facts (rw (eq-eqb (f / 64 % 2) 1 l) (sym (or-true (bitSet 0 b && bitSet 5 f))))
+    where
+      or-true : (x : Bool) → (x || true) ≡ true
+      or-true true = refl
+      or-true false = refl
+
+  module _ (l : f / 64 % 2 ≡ 1 → ⊥) where
+    pub pure-annotated : b % 2 ≡ 1 → Tells s i (pureNew (record { byte = b })) (eqb (f / 32 % 2) 1)
+    pure-annotated a =
+        let y : b / 1 % 2 ≡ 1 = omega arith in
+        pure-facts (rw (ne-eqb (f / 64 % 2) 1 l, eq-eqb (b / 1 % 2) 1 y) (sym (or-false (bitSet 5 f))))
+
+    pub pure-neither : (b % 2 ≡ 1 → ⊥) → Tells s i (pureNew (record { byte = b })) false
+    pure-neither a =
+        let y : b / 1 % 2 ≡ 1 → ⊥ = λ (z : b / 1 % 2 ≡ 1). a (omega arith) in
+        pure-facts (rw (ne-eqb (f / 64 % 2) 1 l, ne-eqb (b / 1 % 2) 1 y))

@@ -1,0 +1,53 @@
+// The argument of a typeof, the callee of a call, and whether a call or a new is pure.
+use fields::kind;
+ghost use Prim.Native.Nat.{_+_, _≤_};
+ghost use lib.ListN.{length};
+ghost use Rattle.tree.specs.Fields.{start};
+ghost use Rattle.rules.specs.Handler.{isKind, firstIs};
+ghost use Rattle.rules.specs.Facts.{ofIdentifier, pureNew, pureCall};
+ghost use Rattle.readings.specs.Node.{SomeNode, Tells};
+
+// Whether the argument of a unary, or the callee of a call or new, has this kind.
+pub fn first_is(src: &[u8], i: usize, kind: usize) -> bool
+    requires { ⌜ SomeNode (now src) i ⌝ }
+    ensures { λ r. ⌜ Tells (now (src .entry)) i (firstIs (isKind kind)) r ⌝ }
+{
+    if fields::children_at(src, i) == 0 {
+        return false;
+    }
+    fields::kind_at(src, i + 1) == kind
+}
+
+pub fn of_identifier(src: &[u8], i: usize) -> bool
+    requires { ⌜ SomeNode (now src) i ⌝ }
+    ensures { λ r. ⌜ Tells (now (src .entry)) i ofIdentifier r ⌝ }
+{
+    first_is(src, i, kind::IDENTIFIER)
+}
+
+pub fn pure_new(src: &[u8], i: usize, settings: u8) -> bool
+    requires { ⌜ start (i + 1) ≤ length (now src) ⌝ }
+    ensures { λ r. ⌜ Tells (now (src .entry)) i (pureNew (record { byte = settings })) r ⌝ }
+{
+    let facts = fields::facts_at(src, i);
+    if facts / 64 % 2 == 1 {
+        return true;
+    }
+    if settings % 2 == 1 {
+        return facts / 32 % 2 == 1;
+    }
+    false
+}
+
+pub fn pure_call(src: &[u8], i: usize, settings: u8) -> bool
+    requires { ⌜ SomeNode (now src) i ⌝ }
+    ensures { λ r. ⌜ Tells (now (src .entry)) i (pureCall (record { byte = settings })) r ⌝ }
+{
+    if pure_new(src, i, settings) {
+        return true;
+    }
+    if first_is(src, i, kind::IDENTIFIER) {
+        return fields::facts_at(src, i) / 128 % 2 == 1;
+    }
+    false
+}

@@ -1,0 +1,106 @@
+// A class by its parts: what makes it an effect, and what its elements say.
+ghost use Prim.Native.Nat.{_+_, _≤_};
+ghost use lib.ListN.{length};
+ghost use Rattle.tree.specs.Fields.{start};
+ghost use Rattle.rules.specs.Lists.{any};
+ghost use Rattle.rules.specs.Class.{decoratedClass, hasStaticValue, nonemptyStaticBlock, decoratedElement, elements, arrowHeritage};
+ghost use Rattle.rules.specs.Effects.{classIsEffect};
+ghost use Rattle.readings.specs.Node.{SomeNode, Tells};
+ghost use Rattle.readings.specs.Class.{hasHeritage, ElementsAt};
+
+pub fn decorated_class_at(src: &[u8], i: usize) -> bool
+    requires { ⌜ start (i + 1) ≤ length (now src) ⌝ }
+    ensures { λ r. ⌜ Tells (now (src .entry)) i decoratedClass r ⌝ }
+{
+    fields::sub_at(src, i) % 2 == 1
+}
+
+pub fn has_static_value_at(src: &[u8], i: usize) -> bool
+    requires { ⌜ start (i + 1) ≤ length (now src) ⌝ }
+    ensures { λ r. ⌜ Tells (now (src .entry)) i hasStaticValue r ⌝ }
+{
+    let sub = fields::sub_at(src, i);
+    if sub / 8 % 2 == 1 {
+        return sub / 64 % 2 == 1;
+    }
+    false
+}
+
+pub fn nonempty_static_block_at(src: &[u8], i: usize) -> bool
+    requires { ⌜ start (i + 1) ≤ length (now src) ⌝ }
+    ensures { λ r. ⌜ Tells (now (src .entry)) i nonemptyStaticBlock r ⌝ }
+{
+    let sub = fields::sub_at(src, i);
+    if sub % 8 == 4 {
+        return sub / 128 % 2 == 1;
+    }
+    false
+}
+
+fn decorated_element_at(src: &[u8], i: usize) -> bool
+    requires { ⌜ start (i + 1) ≤ length (now src) ⌝ }
+    ensures { λ r. ⌜ Tells (now (src .entry)) i decoratedElement r ⌝ }
+{
+    fields::sub_at(src, i) / 32 % 2 == 1
+}
+
+pub fn has_heritage(src: &[u8], i: usize) -> bool
+    requires { ⌜ SomeNode (now src) i ⌝ }
+    ensures { λ r. ⌜ Tells (now (src .entry)) i hasHeritage r ⌝ }
+{
+    if fields::children_at(src, i) == 0 {
+        return false;
+    }
+    fields::sub_at(src, i) / 2 % 2 == 1
+}
+
+// The record where the elements of the class at record i start.
+pub fn elements_at(src: &[u8], i: usize) -> usize
+    requires { ⌜ SomeNode (now src) i ⌝ }
+    ensures { λ r. ⌜ ElementsAt (now (src .entry)) i r ⌝ }
+{
+    if has_heritage(src, i) {
+        return i + 1 + fields::subtree_at(src, i + 1);
+    }
+    i + 1
+}
+
+pub fn decorated_elements(src: &[u8], i: usize) -> bool
+    requires { ⌜ SomeNode (now src) i ⌝ }
+    ensures { λ r. ⌜ Tells (now (src .entry)) i (λ t. any decoratedElement (elements t)) r ⌝ }
+{
+    let end = i + fields::subtree_at(src, i);
+    let mut p = elements_at(src, i);
+    while p < end {
+        if decorated_element_at(src, p) {
+            return true;
+        }
+        p += fields::subtree_at(src, p);
+    }
+    false
+}
+
+pub fn arrow_heritage(src: &[u8], i: usize) -> bool
+    requires { ⌜ SomeNode (now src) i ⌝ }
+    ensures { λ r. ⌜ Tells (now (src .entry)) i arrowHeritage r ⌝ }
+{
+    if !has_heritage(src, i) {
+        return false;
+    }
+    let size = fields::subtree_at(src, i + 1);
+    let last = crate::sequence::last_expression_in_sequence(src, i + 1, size);
+    fields::kind_at(src, last) == fields::kind::ARROW
+}
+
+pub fn class_is_effect(src: &[u8], i: usize) -> bool
+    requires { ⌜ SomeNode (now src) i ⌝ }
+    ensures { λ r. ⌜ Tells (now (src .entry)) i classIsEffect r ⌝ }
+{
+    if decorated_class_at(src, i) {
+        return true;
+    }
+    if decorated_elements(src, i) {
+        return true;
+    }
+    arrow_heritage(src, i)
+}

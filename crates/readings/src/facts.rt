@@ -1,0 +1,27 @@
+// A node's own facts.
+ghost use Prim.Native.Nat.{_+_, _≤_};
+ghost use lib.ListN.{length};
+ghost use Rattle.tree.specs.Fields.{start};
+ghost use Rattle.rules.specs.Facts.{flagged, possibleSymbol, stringFact};
+ghost use Rattle.readings.specs.Node.{Tells};
+
+pub fn flagged_at(src: &[u8], i: usize) -> bool
+    requires { ⌜ start (i + 1) ≤ length (now src) ⌝ }
+    ensures { λ r. ⌜ Tells (now (src .entry)) i flagged r ⌝ }
+{
+    fields::facts_at(src, i) % 2 == 1
+}
+
+pub fn possible_symbol_at(src: &[u8], i: usize) -> bool
+    requires { ⌜ start (i + 1) ≤ length (now src) ⌝ }
+    ensures { λ r. ⌜ Tells (now (src .entry)) i possibleSymbol r ⌝ }
+{
+    fields::facts_at(src, i) / 2 % 4 != 1
+}
+
+pub fn string_fact_at(src: &[u8], i: usize) -> bool
+    requires { ⌜ start (i + 1) ≤ length (now src) ⌝ }
+    ensures { λ r. ⌜ Tells (now (src .entry)) i stringFact r ⌝ }
+{
+    fields::facts_at(src, i) / 8 % 4 == 2
+}
