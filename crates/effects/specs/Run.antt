@@ -19,7 +19,7 @@ use Rattle.tree.specs.Encoding.{Bytes}
 use Rattle.tree.specs.Accepted.{passed, counted-parts, Accepted, accepted}
 use Rattle.file.specs.Answer.{verdict, verdict-refused, verdict-accepted}
 use Rattle.rules.specs.Effects.{effects}
-use Rattle.rules.specs.Proofs.Counts.{few}
+use Rattle.rules.specs.Theorems.{few-effects}
 use Rattle.effects.specs.Listing.{settingsWith, Input, GivenTree, ListedTree}
 use Rattle.effects.specs.Answer.{number, effectList, Answers}
 use Rattle.effects.specs.declared.listing.Part.the-variants.{InOrder}
@@ -89,7 +89,7 @@ module _ (s : List ℕ) (st n : ℕ) (e : answered (st ∷ n ∷ []) ≡ verdict
     root-given room l = record {
       tree = t;
       input = root-input;
-      fits = omega (arith, few (settingsWith st) t, root-size);
+      fits = omega (arith, few-effects (settingsWith st) t, root-size);
     }
 
     pub counted : {old new : List ℕ} {r : ℕ} → 2 * n ≤ length old → ListedTree s 0 n 65 (settingsWith st) InOrder old new 0 r → Answers s old new (Count r)
@@ -98,7 +98,7 @@ module _ (s : List ℕ) (st n : ℕ) (e : answered (st ∷ n ∷ []) ≡ verdict
         let w = a .by t root-input in
         let x : ltb (length old) (2 * countOf s) ≡ false = le-ltb (length old) (2 * countOf s) (omega (arith, is-count)) in
         let m : r ≡ length (effectList s) = w .ends ∙ zero-add (length (effects (settingsWith st) t)) ∙ ap length root-list in
-        let h : 0 + length (effectList s) ≤ length old = omega (arith, few (settingsWith st) t, root-size, ap length root-list) in
+        let h : 0 + length (effectList s) ≤ length old = omega (arith, few-effects (settingsWith st) t, root-size, ap length root-list) in
         record {
           answer = rw (is-zero, x, m);
           entries = rw (is-zero, x) (w .entries ∙ ap (sets old 0) root-list ∙ sets-eq (effectList s) old 0 h ∙ ap (λ (k : ℕ). effectList s ++ drop k old) (zero-add (length (effectList s))));

@@ -64,9 +64,6 @@ module _ {s : List ℕ} {at size depth : ℕ} {t : Tree} (i : Input s at size de
   pub some-size : 1 ≤ size
   some-size = omega (arith, i .holds .sized)
 
-  pub size-is : size ≡ subtreeAt s at
-  size-is = let m : subtreeAt s at ≡ suc (records (t .kids)) = i .holds .stands .2 in omega (arith, i .holds .sized)
-
   pub kids-input : Input s (at + 1) (size - 1) (depth - 1) (t .kids)
   unfolding formed
   kids-input =
