@@ -1,5 +1,5 @@
 -- The depth of trees that stand in a list of bytes, walked sibling by sibling.
-use mathlib.Core.Path.{_≡_, refl, sym, _∙_}
+use mathlib.Core.Path.{_≡_, refl, sym, subst, _∙_}
 use mathlib.Core.Bool.{Bool, true, false}
 use mathlib.Core.List.{List}
 use Prim.Native.Nat.{ℕ, suc, _+_, _-_, _<_, _≤_, max}
@@ -93,3 +93,9 @@ module _ {s : List ℕ} {at size depth p e : ℕ} (w : Walked s at size depth p 
             held = rw y at h;
             whole = λ r n. w .whole r (low-next (omega arith) some q a′ x r (rw (← y) at n));
           })
+
+    -- A node with no children, which is one level.
+    pub walk-leaf : (depth ≡ 0 → ⊥) → (z : ℕ) → z ≡ subtreeAt s p → z ≡ 1 → Walked s at size depth (p + 1) e
+    walk-leaf some z ez one =
+        let none : Low s (p + 1) (z - 1) (depth - 1) true = low-none (omega arith) in
+        subst (λ (x : ℕ). Walked s at size depth (p + x) e) one (walk-on some z ez true none refl)

@@ -15,10 +15,15 @@ pub fn levels_ok(src: &[u8], at: usize, size: usize, depth: usize) -> bool
             return false;
         }
         let subtree = fields::subtree_at(src, p);
-        if !levels_ok(src, p + 1, subtree - 1, depth - 1) {
-            return false;
+        // a node with no children needs no call
+        if subtree == 1 {
+            p += 1;
+        } else {
+            if !levels_ok(src, p + 1, subtree - 1, depth - 1) {
+                return false;
+            }
+            p += subtree;
         }
-        p += subtree;
     }
     true
 }

@@ -26,7 +26,12 @@ pub struct Tally {
     /// Single comparisons and promises that held.
     pub checks: u64,
     pub trees: u64,
+    pub damaged: u64,
     pub oracle_trees: u64,
+    /// Lists of another side that were held to the first's, and the entries lent for them: all
+    /// are compared, also those after the list.
+    pub lists: u64,
+    pub entries: u64,
     pub premise_true: u64,
     pub premise_false: u64,
     pub removable: u64,
@@ -126,6 +131,7 @@ impl<'s> Judge<'s> {
 
     /// The file must be refused by the numbers that its damage calls for.
     pub fn refused(&mut self, case: &Damaged) -> Result<(), Difference> {
+        self.tally.damaged += 1;
         let (reduction, _) = self.reduce(&case.file, case.output_room)?;
         let (listing, _) = self.list(&case.file, case.entry_room)?;
         let seen = (reduction.number, listing.number);
@@ -153,14 +159,14 @@ impl<'s> Judge<'s> {
         Ok(())
     }
 
-    /// Every side reduces the file into as many bytes, and all answer alike. Answers with the
-    /// bytes written.
+    /// Every side that offers it reduces the file into as many bytes, and all answer alike.
+    /// Answers with the bytes written.
     fn reduce(&mut self, file: &[u8], room: usize) -> Result<(Reduction, Vec<u8>), Difference> {
         let filler = 0xa5 ^ self.tally.checks as u8;
         let mut first: Option<(Reduction, Vec<u8>)> = None;
         for &side in self.sides {
             let mut out = vec![filler; room];
-            let reduction = side.reduce(file, &mut out);
+            let Some(reduction) = side.reduce(file, &mut out) else { continue };
             let name = side.name();
             let untouched =
                 reduction.length <= room && out[reduction.length..].iter().all(|&b| b == filler);
@@ -174,7 +180,7 @@ impl<'s> Judge<'s> {
                 }
             }
         }
-        Ok(first.expect("a side"))
+        Ok(first.expect("a side that reduces"))
     }
 
     /// The same for List effects.
@@ -193,7 +199,11 @@ impl<'s> Judge<'s> {
                 None => first = Some((listing, entries)),
                 Some(other) => {
                     let same = *other == (listing, entries.clone());
-                    self.check(same, || format!("{name} lists {entries:?}, not {:?}", other.1))?;
+                    self.check(same, || {
+                        format!("{name} answers {listing:?} {entries:?}, not {other:?}")
+                    })?;
+                    self.tally.lists += 1;
+                    self.tally.entries += room as u64;
                 }
             }
         }

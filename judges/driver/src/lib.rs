@@ -8,6 +8,9 @@ pub mod file;
 pub mod fixed;
 pub mod hits;
 pub mod judge;
+#[cfg(feature = "library")]
+pub mod library;
+pub mod listings;
 pub mod oracle;
 pub mod random;
 pub mod rows;

@@ -3,10 +3,14 @@
 use driver::fixed;
 use driver::hits::HITS;
 use driver::judge::{Judge, Tally};
+#[cfg(feature = "library")]
+use driver::library::Library;
+use driver::listings;
 use driver::oracle::Oracle;
 use driver::run;
 use driver::side::{Port, Side};
 use driver::speed;
+use std::io::{self, Read};
 use std::process::ExitCode;
 use std::{env, fs};
 
@@ -17,6 +21,8 @@ driver run [--trees N] [--seed S] [--oracle PATH] [--hits]
 driver replay FILE                        the fixed list in FILE
 driver fixed --oracle PATH [--seed S] FILE
                                           makes the fixed list
+driver listings                           the effects of the files on standard input, as the
+                                          program listings prints them
 driver speed [--seed S]                   nanoseconds a record";
 
 const BRIEF_TREES: u64 = 200_000;
@@ -38,12 +44,13 @@ fn main() -> ExitCode {
         "run" => run(&arguments),
         "replay" => replay(&arguments),
         "fixed" => make_fixed_list(&arguments),
+        "listings" => list_input(),
         "speed" => measure(&arguments),
         _ => Err(HELP.to_string()),
     });
     match result {
-        Ok(last_line) => {
-            println!("{last_line}");
+        Ok(lines) => {
+            print!("{lines}");
             ExitCode::SUCCESS
         }
         Err(difference) => {
@@ -71,7 +78,10 @@ fn arguments(mut words: impl Iterator<Item = String>) -> Result<Arguments, Strin
 }
 
 /// The sides that are held to each other. Another joins here.
+#[cfg(not(feature = "library"))]
 const SIDES: &[&dyn Side] = &[&Port];
+#[cfg(feature = "library")]
+const SIDES: &[&dyn Side] = &[&Port, &Library];
 
 fn start_oracle(arguments: &Arguments) -> Result<Option<Oracle>, String> {
     let start = |path: &String| Oracle::start(path).map_err(|error| format!("{path}: {error}"));
@@ -96,13 +106,13 @@ fn run(arguments: &Arguments) -> Result<String, String> {
 }
 
 fn passed(tally: &Tally) -> String {
-    format!("judges: {} checks passed", tally.checks)
+    format!("judges: {} checks passed\n", tally.checks)
 }
 
 fn report(tally: &Tally, arguments: &Arguments, listed: usize, questions: u64) {
     println!(
-        "seed {}: {} trees, {listed} of them from the fixed list",
-        arguments.seed, tally.trees
+        "seed {}: {} trees, {listed} of them from the fixed list, and {} damaged files",
+        arguments.seed, tally.trees, tally.damaged
     );
     println!("  {} removable, {} kept", tally.removable, tally.kept);
     println!("  {} premise-true, {} not", tally.premise_true, tally.premise_false);
@@ -112,6 +122,12 @@ fn report(tally: &Tally, arguments: &Arguments, listed: usize, questions: u64) {
             tally.oracle_trees
         ),
         None => println!("  {questions} Derived questions, no oracle"),
+    }
+    for side in &SIDES[1..] {
+        println!("  held to the port: {}", side.name());
+    }
+    if tally.lists > 0 {
+        println!("  {} lists, {} entries compared, 0 different", tally.lists, tally.entries);
     }
     let refused: u64 = tally.refused[1..].iter().sum();
     println!("  {refused} refusals by number 1 to 12: {:?}", &tally.refused[1..]);
@@ -144,17 +160,26 @@ fn make_fixed_list(arguments: &Arguments) -> Result<String, String> {
     oracle.stop().map_err(|error| error.to_string())?;
     let bytes = fixed::encode(&cases);
     fs::write(path, &bytes).map_err(|error| format!("{path}: {error}"))?;
-    Ok(format!("{} cases, {} bytes", cases.len(), bytes.len()))
+    Ok(format!("{} cases, {} bytes\n", cases.len(), bytes.len()))
+}
+
+fn list_input() -> Result<String, String> {
+    let mut input = Vec::new();
+    io::stdin().read_to_end(&mut input).map_err(|error| error.to_string())?;
+    Ok(listings::text(&Port, &input))
 }
 
 fn measure(arguments: &Arguments) -> Result<String, String> {
-    for &side in SIDES {
-        for records in [10, 100, 500, 2_000] {
-            let m = speed::measure(side, records, arguments.seed);
+    println!("nanoseconds a record, median of {} rounds", speed::ROUNDS);
+    for records in [10, 200, 2_000, 3_999] {
+        let files = speed::files(records, arguments.seed);
+        println!("{} files of {records} records", files.len());
+        for (side, measured) in SIDES.iter().zip(speed::measure(SIDES, &files)) {
+            let [check, reduce, list] = [measured.check, measured.reduce, measured.list]
+                .map(|time| time.map_or("-".to_string(), |time| format!("{time:.1}")));
             let name = side.name();
-            println!("{name}, {} files of {records} records, ns a record:", m.files);
-            println!("  check {:.1}, Reduce {:.1}, List effects {:.1}", m.check, m.reduce, m.list);
+            println!("  {name:8} check {check:>5}  Reduce {reduce:>5}  List effects {list:>5}");
         }
     }
-    Ok("judges: measured".to_string())
+    Ok("judges: measured\n".to_string())
 }

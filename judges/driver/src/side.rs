@@ -1,8 +1,8 @@
 //! A side: one implementation of document 01's operations, called in this process.
 //!
-//! The port is one. Another joins by implementing `Side` (a library behind C functions in a few
-//! lines) and joining the port in `SIDES` of `main.rs`. The oracle is no side: it is asked for
-//! its answers to accepted trees alone (`oracle`).
+//! The port is one, and the proved library another (`library`). A further one joins by implementing
+//! `Side` and joining the port in `SIDES` of `main.rs`. The oracle is no side: it is asked for its
+//! answers to accepted trees alone (`oracle`).
 
 use port::{Limits, Listed, Reduced};
 
@@ -30,7 +30,8 @@ pub enum Answer {
 pub trait Side {
     fn name(&self) -> &str;
 
-    fn reduce(&self, file: &[u8], out: &mut [u8]) -> Reduction;
+    /// None, if the side does not offer it. The first side does.
+    fn reduce(&self, file: &[u8], out: &mut [u8]) -> Option<Reduction>;
 
     fn list_effects(&self, file: &[u8], entries: &mut [u64]) -> Listing;
 
@@ -47,12 +48,12 @@ impl Side for Port {
         "port"
     }
 
-    fn reduce(&self, file: &[u8], out: &mut [u8]) -> Reduction {
-        match port::reduce(file, out) {
+    fn reduce(&self, file: &[u8], out: &mut [u8]) -> Option<Reduction> {
+        Some(match port::reduce(file, out) {
             Reduced::Refused(number) => Reduction { number, length: 0 },
             Reduced::Removable => Reduction { number: 0, length: 0 },
             Reduced::Kept(length) => Reduction { number: 0, length },
-        }
+        })
     }
 
     fn list_effects(&self, file: &[u8], entries: &mut [u64]) -> Listing {

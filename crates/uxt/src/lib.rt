@@ -1,0 +1,34 @@
+// The C functions. include/uxt.h declares them.
+use derived::Answer;
+use effects::Listed;
+ghost use mathlib.Core.Path.{_≡_};
+ghost use Rattle.derived.specs.Answer.{derivedQuestion};
+ghost use Rattle.uxt.specs.Packed.{plain, PackedListing};
+
+// A refusal's number stands above the 32 bits of a value.
+const NUMBER: u64 = 4294967296;
+
+// Lists the effects of the tree file src in entries: the value is their count.
+#[no_mangle]
+pub extern "C" fn uxt_list_effects(src: &[u8], entries: &mut [u64]) -> u64
+    ensures { λ r. ⌜ PackedListing (now (src .entry)) (now (entries .entry)) (now (entries .exit)) r ⌝ }
+{
+    let listed = effects::list_effects(src, entries);
+    match listed {
+        Listed::Refused(number) => number as u64 * NUMBER,
+        Listed::Count(count) => count as u64,
+    }
+}
+
+// The Derived question: 0 for no, 1 for yes, or the refusal's number.
+#[no_mangle]
+pub extern "C" fn uxt_derived(scopes: &[u8], ancestors: &[u8]) -> u64
+    ensures { λ r. ⌜ r ≡ plain (derivedQuestion (now (scopes .entry)) (now (ancestors .entry))) ⌝ }
+{
+    let answer = derived::derived_constructor_this_scope(scopes, ancestors);
+    match answer {
+        Answer::Yes => 1,
+        Answer::No => 0,
+        Answer::Refused(number) => number as u64,
+    }
+}

@@ -1,0 +1,54 @@
+/* The C functions of libuxt.a, which `rt staticlib uxt` writes to target/staticlib/.
+ *
+ * The archive is for x86-64 Linux and needs nothing else to link. No function allocates, keeps state or
+ * ends the program, and each may be called from several threads at once. 256 KB of stack are enough.
+ *
+ * What the caller owes, and nothing checks: a pointer is not null and its length counts what it points
+ * to, also where the length is 0; memory that a function writes to does not overlap what it reads.
+ *
+ * What a function returns says whether it refused: see each.
+ */
+#ifndef UXT_H
+#define UXT_H
+
+#include <stddef.h>
+#include <stdint.h>
+
+#ifdef __cplusplus
+extern "C" {
+#endif
+
+/* Lists the effects of the tree file src in entries, in ECMA-262's order, repeats kept.
+ *
+ * src holds the whole file (docs/FORMAT.md). entries needs room for twice the record count that bytes 6
+ * and 7 of the file give, lower byte first; UXT_MOST_ENTRIES are enough for every file.
+ *
+ * Returns the number of the refusal, 0 where there is none, times 2^32, plus the count of the effects, 0
+ * where there is a refusal. The first entries are the list, and all others keep what they held. Refused
+ * with 1 to 8 for a fault of the file, under List effects' limits of 3,999 records and 65 levels; with 10
+ * where entries_len is under twice the record count. Then all entries keep what they held.
+ *
+ * An entry is place * 512 + kind * 2, plus 1 if it is a coercion. */
+#define UXT_NUMBER(answer) ((uint32_t)((answer) >> 32))
+#define UXT_COUNT(answer) ((uint32_t)(answer))
+#define UXT_MOST_ENTRIES 7998
+#define UXT_PLACE(entry) ((uint32_t)((entry) >> 9))
+#define UXT_KIND(entry) ((uint8_t)((entry) >> 1))
+#define UXT_COERCION(entry) ((int)((entry) & 1))
+
+uint64_t uxt_list_effects(const uint8_t *src, size_t src_len, uint64_t *entries, size_t entries_len);
+
+/* The Derived question: is `this` that of the constructor of a derived class?
+ *
+ * Both lists run innermost first. A scope byte is the sum of 1 for a block, 2 for an arrow, 4 for a
+ * constructor. An ancestor byte is 1 for a field or accessor value, 2 for a constructor method, 3 for a
+ * class body, 4 for one with a heritage, 0 for any other.
+ *
+ * Returns 0 for no and 1 for yes; 11 where a scope byte is over 7, else 12 where an ancestor byte is over 4. */
+uint64_t uxt_derived(const uint8_t *scopes, size_t scopes_len, const uint8_t *ancestors, size_t ancestors_len);
+
+#ifdef __cplusplus
+}
+#endif
+
+#endif

@@ -1,0 +1,44 @@
+//! The proved library's C functions, as `include/uxt.h` of the repository declares them.
+
+unsafe extern "C" {
+    fn uxt_list_effects(
+        src: *const u8,
+        src_len: usize,
+        entries: *mut u64,
+        entries_len: usize,
+    ) -> u64;
+
+    fn uxt_derived(
+        scopes: *const u8,
+        scopes_len: usize,
+        ancestors: *const u8,
+        ancestors_len: usize,
+    ) -> u64;
+}
+
+/// The refusal's number (0: none) times 2^32, plus the count.
+pub struct Packed(u64);
+
+impl Packed {
+    pub fn number(&self) -> u64 {
+        self.0 >> 32
+    }
+
+    pub fn count(&self) -> u64 {
+        self.0 & 0xffff_ffff
+    }
+}
+
+/// The count is that of the entries written.
+pub fn list_effects(file: &[u8], entries: &mut [u64]) -> Packed {
+    // SAFETY: each pointer comes with the length of its slice, and the two do not overlap.
+    Packed(unsafe {
+        uxt_list_effects(file.as_ptr(), file.len(), entries.as_mut_ptr(), entries.len())
+    })
+}
+
+/// 0 for no, 1 for yes, or the refusal's number.
+pub fn derived(scopes: &[u8], ancestors: &[u8]) -> u64 {
+    // SAFETY: each pointer comes with the length of its slice.
+    unsafe { uxt_derived(scopes.as_ptr(), scopes.len(), ancestors.as_ptr(), ancestors.len()) }
+}
