@@ -1,14 +1,14 @@
 -- The depth of trees that stand in a list of bytes, walked sibling by sibling.
-use mathlib.Core.Path.{_≡_, refl, sym, subst, _∙_}
+use mathlib.Core.Path.{_≡_, refl, sym, _∙_}
 use mathlib.Core.Bool.{Bool, true, false}
 use mathlib.Core.List.{List}
 use Prim.Native.Nat.{ℕ, suc, _+_, _-_, _<_, _≤_, max}
 use native.Mathlib.Omega.{arith}
 use lib.Dec.{leb}
 use borrow.Author.Tests.{le-leb, lt-leb, leb-true, leb-false}
-use Rattle.tree.specs.Tree.{Forest, nil, node, levels}
+use Rattle.tree.specs.Tree.{Forest, nil, node, records, levels}
 use Rattle.tree.specs.Fields.{subtreeAt}
-use Rattle.tree.specs.Walk.{Holds, Held, first-of, held-within, held-after}
+use Rattle.tree.specs.Walk.{Holds, Held, first-of, held-some, held-within, held-after}
 
 -- r says whether the list that stands there has `depth` levels at most.
 pub record Low (s : List ℕ) (at size depth : ℕ) (r : Bool) : Type 0 where
@@ -32,13 +32,14 @@ leb-iff a b c d f g = go (leb a b) refl
     go true e = sym (le-leb c d (f (leb-true a b e)))
     go false e = sym (lt-leb c d (g (leb-false a b e)))
 
+-- A list of trees has no more levels than records.
+few-levels : (f : Forest) → levels f ≤ records f
+few-levels nil = omega arith
+few-levels (node h cs rest) = omega (arith, few-levels cs, few-levels rest)
+
 module _ {s : List ℕ} {p size depth : ℕ} where
-  low-none : size ≡ 0 → Low s p size depth true
-  low-none z = record { by = go }
-    where
-      go : (f : Forest) → Holds s p size f → true ≡ leb (levels f) depth
-      go nil d = sym (le-leb 0 depth (omega arith))
-      go (node k cs rest) d = absurd (omega (arith, d .sized))
+  low-few : size ≤ depth → Low s p size depth true
+  low-few l = record { by = λ f d. sym (le-leb (levels f) depth (omega (arith, few-levels f, d .sized))) }
 
   low-zero : 0 < size → depth ≡ 0 → Low s p size depth false
   low-zero l z = record { by = go }
@@ -70,7 +71,7 @@ module _ {s : List ℕ} {p size depth : ℕ} where
 -- The steps of the walk.
 module _ {s : List ℕ} {at size depth p e : ℕ} (w : Walked s at size depth p e) where
   pub walk-done : e ≤ p → Low s at size depth true
-  walk-done l = w .whole true (low-none (omega (arith, w .inside)))
+  walk-done l = w .whole true (low-few (omega (arith, w .inside)))
 
   module _ (l : p < e) where
     pub walk-zero : depth ≡ 0 → Low s at size depth false
@@ -94,8 +95,8 @@ module _ {s : List ℕ} {at size depth p e : ℕ} (w : Walked s at size depth p 
             whole = λ r n. w .whole r (low-next (omega arith) some q a′ x r (rw (← y) at n));
           })
 
-    -- A node with no children, which is one level.
-    pub walk-leaf : (depth ≡ 0 → ⊥) → (z : ℕ) → z ≡ subtreeAt s p → z ≡ 1 → Walked s at size depth (p + 1) e
-    walk-leaf some z ez one =
-        let none : Low s (p + 1) (z - 1) (depth - 1) true = low-none (omega arith) in
-        subst (λ (x : ℕ). Walked s at size depth (p + x) e) one (walk-on some z ez true none refl)
+    -- A tree of so few records is passed over.
+    pub walk-few : (z : ℕ) → z ≡ subtreeAt s p → z ≤ depth → Walked s at size depth (p + z) e
+    walk-few z ez few =
+        let i : 1 ≤ subtreeAt s p = held-some (w .held) (omega arith) in
+        walk-on (λ y. omega arith) z ez true (low-few (omega arith)) refl

@@ -9,10 +9,10 @@ use Rattle.tree.specs.Below.{allBelow, all-at}
 use Rattle.tree.specs.Record.{allowedFacts, bitsWithin, pairsOk, literalOk, factsOk}
 use Rattle.tree.specs.Kind as kind
 
-abbrev agree : Bool → Bool → Bool
+abbrev pub agree : Bool → Bool → Bool
 agree a b = cond a b (not b)
 
-agree-same : (a b : Bool) → agree a b ≡ true → a ≡ b
+pub agree-same : (a b : Bool) → agree a b ≡ true → a ≡ b
 agree-same true b e = sym e
 agree-same false true e = e
 agree-same false false e = refl

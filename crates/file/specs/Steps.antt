@@ -1,6 +1,6 @@
 -- The steps of the record check and of the shape check, over the values that the code read: k is the kind of the head h.
-use mathlib.Core.Path.{_≡_, refl, sym, ap, _∙_}
-use mathlib.Core.Bool.{Bool, true, false, _&&_, _||_, or-false}
+use mathlib.Core.Path.{_≡_, refl, sym, _∙_}
+use mathlib.Core.Bool.{Bool, true, false, _&&_}
 use mathlib.Core.Logic.{⊎-elim}
 use mathlib.Core.List.{List}
 use Prim.Native.Nat.{ℕ, zero, suc, _+_, _-_, _<_, _≤_}
@@ -11,7 +11,7 @@ use borrow.Author.Tests.{le-leb, lt-leb, eq-eqb, ne-eqb}
 use Rattle.tree.specs.Tree.{Head}
 use Rattle.tree.specs.Below.{allBelow, and-fails}
 use Rattle.tree.specs.Record.{factsOk, subOk, recordOk}
-use Rattle.tree.specs.Children.{childCountOk, firstIsExpression, mayStand}
+use Rattle.tree.specs.Children.{childCountOk, mayStand}
 use Rattle.tree.specs.Fields.{countOf, headAt, childrenAt, subtreeAt}
 use Rattle.tree.specs.Refusal.{childrenEnd, shapeAt, shapeOk}
 use Rattle.tree.specs.Kind as kind
@@ -41,15 +41,6 @@ module _ (h : Head) (k : ℕ) (ek : k ≡ h .kind) where
 
     pub record-rest : (r : ℕ) → factsOk h ≡ true → subOk h ≡ true → r ≡ h .reserved → recordOk h ≡ eqb r 0
     record-rest r f s e = record-kind ∙ rw (f, s, e)
-
--- A child that is not the callee or the heritage.
-pub stand-later : (h : Head) (k : ℕ) → firstIsExpression h ≡ false → mayStand h true k ≡ mayStand h false k
-unfolding mayStand
-stand-later h k e = rw e
-
-pub stand-first : (h : Head) (k : ℕ) → firstIsExpression h ≡ true → mayStand h true k ≡ kind.isExpression k
-unfolding mayStand
-stand-first h k e = rw e
 
 -- The walk over children: k are left from record p on.
 module _ (s : List ℕ) (h : Head) (first : Bool) where
@@ -134,14 +125,3 @@ pub shape-all : (s : List ℕ) → subtreeAt s 0 ≡ countOf s → kind.isExpres
     → shapeOk s ≡ allBelow (shapeAt s (countOf s)) (countOf s)
 unfolding shapeOk
 shape-all s e x = rw (eq-eqb (subtreeAt s 0) (countOf s) e, x)
-
--- Children of an array and arguments: each of the tests before an expression's.
-pub no-spread : (k : ℕ) → (k ≡ kind.spread → ⊥) → kind.isExpression k ≡ (kind.isExpression k || eqb k kind.spread)
-no-spread k n =
-    sym (ap (λ (b : Bool). kind.isExpression k || b) (ne-eqb k kind.spread n) ∙ or-false (kind.isExpression k))
-
-pub no-elision : (k : ℕ) → (k ≡ kind.elision → ⊥)
-    → (kind.isExpression k || eqb k kind.spread) ≡ (kind.isExpression k || (eqb k kind.spread || eqb k kind.elision))
-no-elision k n =
-    sym (ap (λ (b : Bool). kind.isExpression k || (eqb k kind.spread || b)) (ne-eqb k kind.elision n)
-    ∙ ap (λ (b : Bool). kind.isExpression k || b) (or-false (eqb k kind.spread)))

@@ -1,14 +1,15 @@
 // Refusal 7: child counts, subtree sizes, and which kinds may stand where.
 use fields::kind;
 ghost use mathlib.Core.Path.{_≡_};
-ghost use mathlib.Core.Bool.{true, false, _||_};
+ghost use mathlib.Core.Bool.{true, false};
 ghost use Prim.Native.Nat.{_+_, _<_, _≤_};
-ghost use lib.Dec.{eqb};
 ghost use lib.ListN.{length};
-ghost use Rattle.tree.specs.Kind.{isExpression, spread};
+ghost use Rattle.tree.specs.Kind.{isExpression, literal};
 ghost use Rattle.tree.specs.Fields.{start, countOf, headAt, childrenAt};
 ghost use Rattle.tree.specs.Children.{childCountOk, firstIsExpression, mayStand};
 ghost use Rattle.tree.specs.Refusal.{childrenEnd, shapeAt, shapeOk};
+ghost use Rattle.file.specs.Bounds.{leastChildren, mostChildren, countWithin};
+ghost use Rattle.file.specs.Parents.{takesSpread};
 
 fn is_expression(kind: usize) -> bool
     ensures { λ r. ⌜ r ≡ isExpression kind ⌝ }
@@ -25,13 +26,45 @@ fn is_expression(kind: usize) -> bool
     kind != kind::ELEMENT
 }
 
-fn is_argument(kind: usize) -> bool
-    ensures { λ r. ⌜ r ≡ (isExpression kind || eqb kind spread) ⌝ }
+fn least_children(kind: usize) -> usize
+    ensures { λ r. ⌜ r ≡ leastChildren kind ⌝ }
 {
-    if kind == kind::SPREAD {
-        return true;
+    match kind {
+        kind::SPREAD => 1,
+        kind::UNARY => 1,
+        kind::BINARY => 2,
+        kind::CALL => 1,
+        kind::NEW => 1,
+        _ => 0,
     }
-    is_expression(kind)
+}
+
+fn most_children(kind: usize) -> usize
+    ensures { λ r. ⌜ r ≡ mostChildren kind ⌝ }
+{
+    match kind {
+        kind::LITERAL => 0,
+        kind::IDENTIFIER => 0,
+        kind::FUNCTION => 0,
+        kind::ARROW => 0,
+        kind::OTHER_LEAF => 0,
+        kind::THIS => 0,
+        kind::ELISION => 0,
+        kind::SPREAD => 1,
+        kind::UNARY => 1,
+        kind::BINARY => 2,
+        _ => 65535,
+    }
+}
+
+// Two bounds by kind rather than a test by kind, which would often be mispredicted.
+fn count_within(kind: usize, n: usize) -> bool
+    ensures { λ r. ⌜ r ≡ countWithin kind n ⌝ }
+{
+    if most_children(kind) < n {
+        return false;
+    }
+    least_children(kind) <= n
 }
 
 fn child_count_ok(src: &[u8], i: usize) -> bool
@@ -41,24 +74,11 @@ fn child_count_ok(src: &[u8], i: usize) -> bool
     let kind = fields::kind_at(src, i);
     let sub = fields::sub_at(src, i);
     let n = fields::children_at(src, i);
-    if kind <= kind::OTHER_LEAF {
-        if kind == 0 {
-            return true;
-        }
-        return n == 0;
-    }
     match kind {
-        kind::THIS => n == 0,
-        kind::ELISION => n == 0,
-        kind::SPREAD => n == 1,
-        kind::UNARY => n == 1,
-        kind::BINARY => n == 2,
-        kind::CALL => 1 <= n,
-        kind::NEW => 1 <= n,
         kind::PROPERTY => n == 1 + sub,
         kind::CLASS => sub / 2 % 2 <= n,
         kind::ELEMENT => n == sub / 16 % 2 + sub / 64 % 2,
-        _ => true,
+        _ => count_within(kind, n),
     }
 }
 
@@ -77,44 +97,69 @@ fn first_is_expression(src: &[u8], i: usize) -> bool
     }
 }
 
-// Whether record p may stand as a child of record i, and not as its callee or heritage.
-fn may_stand_later(src: &[u8], i: usize, p: usize) -> bool
-    requires { ⌜ (start (i + 1) ≤ length (now src)) × (start (p + 1) ≤ length (now src)) ⌝ }
-    ensures { λ r. ⌜ r ≡ mayStand (headAt (now (src .entry)) i) false (headAt (now (src .entry)) p .kind) ⌝ }
+// Whether record i takes an expression as a child. The promise speaks of a literal: an expression stands where a literal does.
+fn takes_expression(src: &[u8], i: usize, first: bool) -> bool
+    requires { ⌜ start (i + 1) ≤ length (now src) ⌝ }
+    ensures { λ r. ⌜ r ≡ mayStand (headAt (now (src .entry)) i) first literal ⌝ }
 {
     let kind = fields::kind_at(src, i);
-    let child = fields::kind_at(src, p);
-    match kind {
-        kind::ARRAY => {
-            if child == kind::ELISION {
-                return true;
-            }
-            is_argument(child)
+    if kind == kind::OBJECT {
+        return false;
+    }
+    if kind == kind::CLASS {
+        if first {
+            return fields::sub_at(src, i) / 2 % 2 == 1;
         }
-        kind::CALL => is_argument(child),
-        kind::NEW => is_argument(child),
-        kind::OBJECT => {
-            if child == kind::SPREAD {
-                return true;
-            }
-            child == kind::PROPERTY
-        }
-        kind::CLASS => child == kind::ELEMENT,
-        _ => is_expression(child),
+        return false;
+    }
+    true
+}
+
+// Whether record i takes this kind, which is no expression, as a child that is not its callee or heritage.
+fn takes_part(src: &[u8], i: usize, child: usize) -> bool
+    requires { ⌜ (start (i + 1) ≤ length (now src)) × (isExpression child ≡ false) ⌝ }
+    ensures { λ r. ⌜ r ≡ mayStand (headAt (now (src .entry)) i) false child ⌝ }
+{
+    let kind = fields::kind_at(src, i);
+    match child {
+        kind::ELISION => kind == kind::ARRAY,
+        kind::PROPERTY => kind == kind::OBJECT,
+        kind::ELEMENT => kind == kind::CLASS,
+        _ => takes_spread(kind),
     }
 }
 
+fn takes_spread(kind: usize) -> bool
+    ensures { λ r. ⌜ r ≡ takesSpread kind ⌝ }
+{
+    if kind == kind::ARRAY {
+        return true;
+    }
+    if kind == kind::OBJECT {
+        return true;
+    }
+    if kind == kind::CALL {
+        return true;
+    }
+    kind == kind::NEW
+}
+
+// Expressions first, since most children are.
 fn may_stand(src: &[u8], i: usize, first: bool, p: usize) -> bool
     requires { ⌜ (start (i + 1) ≤ length (now src)) × (start (p + 1) ≤ length (now src)) ⌝ }
     ensures { λ r. ⌜ r ≡ mayStand (headAt (now (src .entry)) i) first (headAt (now (src .entry)) p .kind) ⌝ }
 {
+    let child = fields::kind_at(src, p);
+    if is_expression(child) {
+        return takes_expression(src, i, first);
+    }
     if first {
         if first_is_expression(src, i) {
-            return is_expression(fields::kind_at(src, p));
+            return false;
         }
-        return may_stand_later(src, i, p);
+        return takes_part(src, i, child);
     }
-    may_stand_later(src, i, p)
+    takes_part(src, i, child)
 }
 
 // Whether n children of record i, from record i + 1 on, end exactly at record end, and each may stand there.

@@ -11,14 +11,14 @@ pub fn levels_ok(src: &[u8], at: usize, size: usize, depth: usize) -> bool
     let end = at + size;
     let mut p = at;
     while p < end {
-        if depth == 0 {
-            return false;
-        }
         let subtree = fields::subtree_at(src, p);
-        // a node with no children needs no call
-        if subtree == 1 {
-            p += 1;
+        // a tree has no more levels than records, so most are not looked into
+        if subtree <= depth {
+            p += subtree;
         } else {
+            if depth == 0 {
+                return false;
+            }
             if !levels_ok(src, p + 1, subtree - 1, depth - 1) {
                 return false;
             }

@@ -6,6 +6,7 @@ ghost use lib.ListN.{length};
 ghost use Rattle.tree.specs.Below.{allBelow};
 ghost use Rattle.tree.specs.Fields.{start, headAt};
 ghost use Rattle.tree.specs.Record.{allowedFacts, pairsOk, factsOk, elementSubOk, subOk, recordOk, included};
+ghost use Rattle.file.specs.Bounds.{leastSub, mostSub};
 
 // The permitted fact bits of each kind, by its number: 1 is the flag, 31 the flag and both pairs, 127 these with annotated and
 // listed, and 255 all.
@@ -42,21 +43,31 @@ fn allowed_facts(kind: usize) -> u8
     ALLOWED_FACTS[kind]
 }
 
+// Whether bits 1 to 4 of the facts are permitted, by their number: the string pair times 4 and the symbol pair.
+const PAIRS_OK: [u8; 16] = [
+    1,
+    1,
+    1,
+    0, // string unknown
+    1,
+    1,
+    1,
+    0, // string no
+    0,
+    1,
+    0,
+    0, // string yes
+    0,
+    0,
+    0,
+    0, // no such string pair
+];
+
 fn pairs_ok(facts: usize) -> bool
+    requires { ⌜ facts < 256 ⌝ }
     ensures { λ r. ⌜ r ≡ pairsOk facts ⌝ }
 {
-    let symbol = facts / 2 % 4;
-    let string = facts / 8 % 4;
-    if symbol == 3 {
-        return false;
-    }
-    if string == 3 {
-        return false;
-    }
-    if string == 2 {
-        return symbol == 1;
-    }
-    true
+    PAIRS_OK[facts / 2 % 16] == 1
 }
 
 fn facts_ok(src: &[u8], i: usize) -> bool
@@ -109,30 +120,42 @@ fn element_sub_ok(sub: usize) -> bool
     true
 }
 
+fn least_sub(kind: usize) -> usize
+    ensures { λ r. ⌜ r ≡ leastSub kind ⌝ }
+{
+    match kind {
+        kind::UNARY => 1,
+        kind::BINARY => 1,
+        _ => 0,
+    }
+}
+
+fn most_sub(kind: usize) -> usize
+    ensures { λ r. ⌜ r ≡ mostSub kind ⌝ }
+{
+    match kind {
+        kind::PROPERTY => 1,
+        kind::UNARY => 4,
+        kind::BINARY => 3,
+        kind::CLASS => 3,
+        _ => 0,
+    }
+}
+
+// Two bounds by kind rather than a test by kind, which would often be mispredicted.
 fn sub_ok(src: &[u8], i: usize) -> bool
     requires { ⌜ start (i + 1) ≤ length (now src) ⌝ }
     ensures { λ r. ⌜ r ≡ subOk (headAt (now (src .entry)) i) ⌝ }
 {
     let kind = fields::kind_at(src, i);
     let sub = fields::sub_at(src, i);
-    match kind {
-        kind::PROPERTY => sub <= 1,
-        kind::UNARY => {
-            if sub == 0 {
-                return false;
-            }
-            sub <= 4
-        }
-        kind::BINARY => {
-            if sub == 0 {
-                return false;
-            }
-            sub <= 3
-        }
-        kind::CLASS => sub <= 3,
-        kind::ELEMENT => element_sub_ok(sub),
-        _ => sub == 0,
+    if kind == kind::ELEMENT {
+        return element_sub_ok(sub);
     }
+    if most_sub(kind) < sub {
+        return false;
+    }
+    least_sub(kind) <= sub
 }
 
 fn record_ok(src: &[u8], i: usize) -> bool

@@ -1,23 +1,29 @@
+-- The table is the rule at every byte: one test, computed over all of them.
+use mathlib.Core.Bool.{Bool}
+use mathlib.Core.List.{List, [], _∷_}
+use mathlib.Core.Path.{refl}
+use Prim.Native.Nat.{ℕ, _/_, _%_}
+use lib.Dec.{eqb}
+use lib.ListN.{getD}
+use borrow.Author.Needs.{needs}
+use Rattle.tree.specs.Below.{allBelow, all-at}
 use Rattle.tree.specs.Record.{pairsOk}
-use borrow.Author.Tests.{eq-eqb, ne-eqb}
+use Rattle.file.specs.Facts.{agree, agree-same}
 use Rattle.file.proofs.record.pairs_ok.Statement.{statement}
 use Rattle.file.proofs.record.pairs_ok.Tie as tie
 
+abbrev table : List ℕ
+table = 1 ∷ 1 ∷ 1 ∷ 0 ∷ 1 ∷ 1 ∷ 1 ∷ 0 ∷ 0 ∷ 1 ∷ 0 ∷ 0 ∷ 0 ∷ 0 ∷ 0 ∷ 0 ∷ []
+
+agrees : ℕ → Bool
+agrees f = agree (eqb (getD table (f / 2 % 16) 0) 1) (pairsOk f)
+
+array-read-result : tie.Need-array-read-result
+array-read-result c = search needs
+
 returns : tie.Need-returns
-unfolding pairsOk
-returns c = rw (eq-eqb _ 3 (c .if1 .taken))
-
-returns-2 : tie.Need-returns-2
-unfolding pairsOk
-returns-2 c = rw (ne-eqb _ 3 (c .before .if1 .left), eq-eqb _ 3 (c .if2 .taken))
-
-returns-3 : tie.Need-returns-3
-unfolding pairsOk
-returns-3 c = rw (ne-eqb _ 3 (c .before .before .if1 .left), ne-eqb _ 3 (c .before .if2 .left), eq-eqb _ 2 (c .if3 .taken))
-
-returns-4 : tie.Need-returns-4
-unfolding pairsOk
-returns-4 c = rw (ne-eqb _ 3 (c .before .before .if1 .left), ne-eqb _ 3 (c .before .if2 .left), ne-eqb _ 2 (c .if3 .left))
+unfolding agrees allBelow pairsOk
+returns c = agree-same (eqb (getD table (c .args .facts / 2 % 16) 0) 1) (pairsOk (c .args .facts)) (all-at agrees 256 refl (c .args .facts) (c .pre))
 
 pub pairs-ok-spec : {M : Type 1} → statement M
-pairs-ok-spec = tie.close (tie.spec returns returns-2 returns-3 returns-4)
+pairs-ok-spec = tie.close (tie.spec array-read-result returns)
