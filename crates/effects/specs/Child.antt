@@ -22,11 +22,14 @@ use Rattle.rules.specs.Proofs.Lists.{by-cond}
 use Rattle.rules.specs.Proofs.Effects.{key-is, static-is}
 use Rattle.readings.specs.Node.{Tells}
 use Rattle.tree.specs.Kind as kind
-use Rattle.effects.specs.Split.{first-node, Split, split, given-first}
+use Rattle.readings.specs.Split.{first-node, Split, split, given-first}
 use Rattle.effects.specs.declared.listing.Part.{Part}
 use Rattle.effects.specs.declared.listing.Part.the-variants.{InOrder, Coerced, Key, Static}
-use Rattle.effects.specs.Listing.{allListedAs, Input, Wrote, GivenChildren, ListedChildren, GivenTree, ListedTree, wrote-both, wrote-as, input-node}
-use Rattle.effects.specs.Entry.{effectAt, GivenEntry, firstSize, GivenFirst, given-entry, wrote-itself, wrote-coercion}
+use Rattle.effects.specs.Listing.{allListedAs, Wrote, GivenChildren, ListedChildren, GivenTree, ListedTree, wrote-both, wrote-as}
+use Rattle.effects.specs.Entry.{effectAt, GivenEntry, given-entry, wrote-itself, wrote-coercion}
+use Rattle.readings.specs.Input.{Input, input-node}
+use Rattle.readings.specs.First.{firstSize, GivenFirst}
+use Rattle.readings.specs.Element.{key-split, key-first}
 
 module _ {s : List ℕ} {at size depth : ℕ} {st : Settings} {pos : ℕ} where
   pub coerced-given : {room : ℕ} → GivenTree s at size depth st Coerced pos room → GivenTree s at size depth st InOrder pos room
@@ -45,80 +48,29 @@ module _ {s : List ℕ} {at size depth : ℕ} {st : Settings} {pos : ℕ} where
       → Wrote mid new next r (keepIf when (effectAt s at 1)) → ListedTree s at size depth st Coerced old new pos r
   coerced-done a {when} p w = record { by = λ t i. wrote-both (a .by t i) (wrote-coercion (input-node i) when (p .by t (input-node i)) w) }
 
--- The key of an element, whose bit 4 is read as `has`: u is its sub.
-sub-small : (h : Head) → subOk h ≡ true → (h .kind ≡ kind.element → ⊥) → h .sub < 16
-unfolding subOk
-sub-small h w n =
-    by-cond P (eqb (h .kind) kind.property) (leb (h .sub) 1) rest₁ (λ _ e. omega (arith, leb-true (h .sub) 1 e))
-    (λ _. by-cond P (eqb (h .kind) kind.unary) (leb 1 (h .sub) && leb (h .sub) 4) rest₂ (λ _ e. omega (arith, leb-true (h .sub) 4 (and-right (leb 1 (h .sub)) (leb (h .sub) 4) e)))
-    (λ _. by-cond P (eqb (h .kind) kind.binary) (leb 1 (h .sub) && leb (h .sub) 3) rest₃ (λ _ e. omega (arith, leb-true (h .sub) 3 (and-right (leb 1 (h .sub)) (leb (h .sub) 3) e)))
-    (λ _. by-cond P (eqb (h .kind) kind.class) (leb (h .sub) 3) rest₄ (λ _ e. omega (arith, leb-true (h .sub) 3 e))
-    (λ _. by-cond P (eqb (h .kind) kind.element) (elementSubOk (h .sub)) (eqb (h .sub) 0) (λ k _. absurd (n (eqb-true (h .kind) kind.element k))) (λ _ e. omega (arith, eqb-true (h .sub) 0 e)))))) w
-  where
-    P : Bool → Type 0
-    P b = b ≡ true → h .sub < 16
-
-    rest₄ : Bool
-    rest₄ = cond (eqb (h .kind) kind.element) (elementSubOk (h .sub)) (eqb (h .sub) 0)
-
-    rest₃ : Bool
-    rest₃ = cond (eqb (h .kind) kind.class) (leb (h .sub) 3) rest₄
-
-    rest₂ : Bool
-    rest₂ = cond (eqb (h .kind) kind.binary) (leb 1 (h .sub) && leb (h .sub) 3) rest₃
-
-    rest₁ : Bool
-    rest₁ = cond (eqb (h .kind) kind.unary) (leb 1 (h .sub) && leb (h .sub) 4) rest₂
-
-key-count : (h : Head) (cs : Forest) → nodeOk h cs ≡ true → bit 4 (h .sub) ≤ count cs
-unfolding childCountOk recordOk
-key-count h cs w = go (eqb (h .kind) kind.element) refl
-  where
-    o : NodeOk h cs
-    o = node-parts h cs w
-
-    go : (b : Bool) → eqb (h .kind) kind.element ≡ b → bit 4 (h .sub) ≤ count cs
-    go true e =
-        let c : eqb (count cs) (bit 4 (h .sub) + bit 6 (h .sub)) ≡ true = rw (eqb-true (h .kind) kind.element e) at (o .counted) in
-        omega (arith, eqb-true (count cs) (bit 4 (h .sub) + bit 6 (h .sub)) c)
-    go false e =
-        let a = and-right (leb kind.literal (h .kind) && leb (h .kind) kind.assignment) (factsOk h && (subOk h && eqb (h .reserved) 0)) (o .record-ok) in
-        let b = and-left (subOk h) (eqb (h .reserved) 0) (and-right (factsOk h) (subOk h && eqb (h .reserved) 0) a) in
-        omega (arith, sub-small h b (eqb-false (h .kind) kind.element e))
-
 module _ {s : List ℕ} {at size depth : ℕ} (u has : ℕ) (eu : u ≡ headAt s at .sub) (eh : has ≡ u / 16 % 2) where
-  key-has : (t : Tree) → Input s at size depth (one t) → has ≡ bit 4 (t .head .sub)
-  key-has t i = eh ∙ ap (λ (x : ℕ). x / 16 % 2) (eu ∙ ap (λ (h : Head). h .sub) (i .holds .stands .0))
-
-  key-split : (k : ℕ) → k ≡ firstSize s at has → (t : Tree) → Input s at size depth (one t) → Split s at size depth t (bit 4 (t .head .sub)) k
-  key-split k ek t i =
-      subst (λ (x : ℕ). Split s at size depth t (bit 4 (t .head .sub)) x) (sym (ek ∙ ap (firstSize s at) (key-has t i)))
-      (split i (bit 4 (t .head .sub)) (omega arith) (key-count (t .head) (t .kids) (first-node i)))
-
-  pub key-first : {st : Settings} {part : Part} {pos room : ℕ} → GivenTree s at size depth st part pos room → GivenFirst s at has
-  key-first g =
-      subst (λ (x : ℕ). GivenFirst s at x) (sym (key-has (g .tree) (g .input)))
-      (given-first (g .input) (bit 4 (g .tree .head .sub)) (key-count (g .tree .head) (g .tree .kids) (first-node (g .input))))
+  pub element-first : {st : Settings} {part : Part} {pos room : ℕ} → GivenTree s at size depth st part pos room → GivenFirst s at has
+  element-first g = key-first u has eu eh (g .tree) (g .input)
 
   module _ (k : ℕ) (ek : k ≡ firstSize s at has) where
     pub key-within : {st : Settings} {part : Part} {pos room : ℕ} → GivenTree s at size depth st part pos room → k ≤ size - 1
-    key-within g = key-split k ek (g .tree) (g .input) .within
+    key-within g = key-split u has eu eh k ek (g .tree) (g .input) .within
 
     module _ (st : Settings) where
-      key-list : (t : Tree) (i : Input s at size depth (one t)) → allListedAs st InOrder (key-split k ek t i .first) ≡ evaluate st t .key
-      key-list t i = ap (concatMap (effects st)) (key-split k ek t i .first-is) ∙ sym (key-is st t)
+      key-list : (t : Tree) (i : Input s at size depth (one t)) → allListedAs st InOrder (key-split u has eu eh k ek t i .first) ≡ evaluate st t .key
+      key-list t i = ap (concatMap (effects st)) (key-split u has eu eh k ek t i .first-is) ∙ sym (key-is st t)
 
       pub key-given : {pos room : ℕ} → GivenTree s at size depth st Key pos room → GivenChildren s (at + 1) k (depth - 1) st InOrder pos room
       key-given g =
-          let p = key-split k ek (g .tree) (g .input) in
+          let p = key-split u has eu eh k ek (g .tree) (g .input) in
           record { forest = p .first; input = p .first-in; fits = rw (key-list (g .tree) (g .input)) (g .fits) }
 
       pub key-done : {old new : List ℕ} {pos r : ℕ} → ListedChildren s (at + 1) k (depth - 1) st InOrder old new pos r → ListedTree s at size depth st Key old new pos r
-      key-done a = record { by = λ t i. wrote-as (a .by (key-split k ek t i .first) (key-split k ek t i .first-in)) (key-list t i) }
+      key-done a = record { by = λ t i. wrote-as (a .by (key-split u has eu eh k ek t i .first) (key-split u has eu eh k ek t i .first-in)) (key-list t i) }
 
       -- The static value of an element: the children behind its key.
-      value-list : (t : Tree) (i : Input s at size depth (one t)) → hasStaticValue t ≡ true → allListedAs st InOrder (key-split k ek t i .rest) ≡ effectsOf st (staticValue t)
-      value-list t i v = ap (concatMap (effects st)) (key-split k ek t i .rest-is) ∙ rw v
+      value-list : (t : Tree) (i : Input s at size depth (one t)) → hasStaticValue t ≡ true → allListedAs st InOrder (key-split u has eu eh k ek t i .rest) ≡ effectsOf st (staticValue t)
+      value-list t i v = ap (concatMap (effects st)) (key-split u has eu eh k ek t i .rest-is) ∙ rw v
 
       module _ (b : Bool) (eb : Tells s at hasStaticValue b) (v : b ≡ true) where
         has-value : (t : Tree) → Input s at size depth (one t) → hasStaticValue t ≡ true
@@ -128,7 +80,7 @@ module _ {s : List ℕ} {at size depth : ℕ} (u has : ℕ) (eu : u ≡ headAt s
         value-given g =
             let t = g .tree in
             let i = g .input in
-            let p = key-split k ek t i in
+            let p = key-split u has eu eh k ek t i in
             record {
               forest = p .rest;
               input = p .rest-in;
@@ -138,7 +90,7 @@ module _ {s : List ℕ} {at size depth : ℕ} (u has : ℕ) (eu : u ≡ headAt s
 
         module _ {old mid : List ℕ} {pos next : ℕ} (a : ListedChildren s (at + 1 + k) (size - 1 - k) (depth - 1) st InOrder old mid pos next) (w : Bool) (ew : Tells s at nonemptyStaticBlock w) where
           value-wrote : (t : Tree) → Input s at size depth (one t) → Wrote old mid pos next (effectsOf st (staticValue t))
-          value-wrote t i = wrote-as (a .by (key-split k ek t i .rest) (key-split k ek t i .rest-in)) (value-list t i (has-value t i))
+          value-wrote t i = wrote-as (a .by (key-split u has eu eh k ek t i .rest) (key-split u has eu eh k ek t i .rest-in)) (value-list t i (has-value t i))
 
           pub block-given : {room : ℕ} → GivenTree s at size depth st Static pos room → GivenEntry s at w 0 next room
           block-given g =

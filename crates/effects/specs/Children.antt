@@ -7,9 +7,10 @@ use lib.ListN.{length, length-append}
 use Rattle.tree.specs.Tree.{Forest, nil, node}
 use Rattle.tree.specs.Fields.{start, subtreeAt}
 use Rattle.rules.specs.Settings.{Settings}
-use Rattle.effects.specs.Split.{first-some, first-within, first-input, rest-input}
+use Rattle.readings.specs.Split.{first-some, first-within, first-input, rest-input}
 use Rattle.effects.specs.declared.listing.Part.{Part}
-use Rattle.effects.specs.Listing.{listedAs, allListedAs, Input, Wrote, GivenChildren, ListedChildren, GivenTree, ListedTree, wrote-none, wrote-both}
+use Rattle.effects.specs.Listing.{listedAs, allListedAs, Wrote, GivenChildren, ListedChildren, GivenTree, ListedTree, wrote-none, wrote-both}
+use Rattle.readings.specs.Input.{Input}
 
 -- Where the walk stands: what lists the trees from record p to record e lists all.
 pub record Walking (s : List ℕ) (at size depth : ℕ) (st : Settings) (part : Part) (old : List ℕ) (pos p e : ℕ) (cur : List ℕ) (next : ℕ) : Type 0 where

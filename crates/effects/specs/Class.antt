@@ -14,14 +14,16 @@ use Rattle.rules.specs.Class.{heritage, elements}
 use Rattle.rules.specs.Effects.{effects, effectsOf, itself, itselfIf, classIsEffect}
 use Rattle.readings.specs.Node.{Tells}
 use Rattle.tree.specs.Kind as kind
-use Rattle.effects.specs.Split.{first-node, Split, split, given-first}
+use Rattle.readings.specs.Split.{first-node, Split, split, given-first}
 use Rattle.effects.specs.Plan.{Planned, Plans, plan-class}
 use Rattle.effects.specs.declared.listing.Part.{Part}
 use Rattle.effects.specs.declared.listing.Part.the-variants.{InOrder, Key, Static}
 use Rattle.effects.specs.declared.plan.Plan.the-variants.{Class}
-use Rattle.effects.specs.Listing.{listedAs, allListedAs, Input, Wrote, GivenChildren, ListedChildren, GivenTree, ListedTree, wrote-both, wrote-as, input-node}
-use Rattle.effects.specs.Entry.{effectAt, GivenEntry, firstSize, GivenFirst, given-entry, wrote-itself}
+use Rattle.effects.specs.Listing.{listedAs, allListedAs, Wrote, GivenChildren, ListedChildren, GivenTree, ListedTree, wrote-both, wrote-as}
+use Rattle.effects.specs.Entry.{effectAt, GivenEntry, given-entry, wrote-itself}
 use Rattle.effects.specs.Expression.{plan-at}
+use Rattle.readings.specs.Input.{Input, input-node}
+use Rattle.readings.specs.First.{firstSize, GivenFirst}
 
 pub record GivenClass (s : List ℕ) (at size depth : ℕ) (st : Settings) (pos room : ℕ) : Type 0 where
   pub given : GivenTree s at size depth st InOrder pos room

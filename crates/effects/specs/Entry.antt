@@ -1,4 +1,4 @@
--- One entry of the list, and the records of a node's first child.
+-- One entry of the list.
 use mathlib.Core.Path.{_≡_, refl, sym, ap, ap₂, _∙_}
 use mathlib.Core.Bool.{Bool, true, false, true≢false}
 use mathlib.Core.List.{List, [], _∷_}
@@ -30,18 +30,6 @@ effect-itself {s} {at} {t} n = add-zero (headAt s at .place * 512 + headAt s at 
 pub effect-coercion : {s : List ℕ} {at : ℕ} {t : Tree} → Node s at t → effectAt s at 1 ≡ coercionNumber t
 unfolding itself coercionNumber
 effect-coercion {s} {at} {t} n = ap (λ (h : Head). h .place * 512 + h .kind * 2 + 1) (n .stands .0)
-
--- The records that the first `has` children take, none or one.
-abbrev pub firstSize : List ℕ → ℕ → ℕ → ℕ
-firstSize s at zero = 0
-firstSize s at (suc n) = subtreeAt s (at + 1)
-
-pub record GivenFirst (s : List ℕ) (at has : ℕ) : Type 0 where
-  pub inside : 1 ≤ has → start (at + 2) ≤ length s
-
-pub first-some : (s : List ℕ) (at has : ℕ) → (has ≡ 0 → ⊥) → subtreeAt s (at + 1) ≡ firstSize s at has
-first-some s at zero n = absurd (n refl)
-first-some s at (suc has) n = refl
 
 pub wrote-one : (s : List ℕ) (at : ℕ) (old : List ℕ) (pos : ℕ) (coercion : ℕ) {place k : ℕ} → place ≡ headAt s at .place → k ≡ headAt s at .kind
     → Wrote old (set old pos (place * 512 + k * 2 + coercion)) pos (pos + 1) (effectAt s at coercion ∷ [])

@@ -10,14 +10,16 @@ use Rattle.tree.specs.Fields.{subtreeAt}
 use Rattle.rules.specs.Lists.{concatMap, keepIf}
 use Rattle.rules.specs.Settings.{Settings}
 use Rattle.rules.specs.Effects.{effects, effectsOf, itself}
-use Rattle.effects.specs.Split.{first-node, kids-input, Split, split, given-first}
+use Rattle.readings.specs.Split.{first-node, kids-input, Split, split, given-first}
 use Rattle.effects.specs.Plan.{Planned, Plans}
 use Rattle.effects.specs.declared.listing.Part.the-variants.{InOrder, Coerced}
 use Rattle.effects.specs.declared.plan.Plan.{Plan}
 use Rattle.effects.specs.declared.plan.Plan.the-variants.{Nothing, Itself, Children, ChildrenThenItself, Arguments}
 use Rattle.effects.specs.declared.plan.Plan.the-variants as plan
-use Rattle.effects.specs.Listing.{allListedAs, Input, Wrote, GivenChildren, ListedChildren, GivenTree, ListedTree, wrote-none, wrote-both, wrote-as, input-node}
-use Rattle.effects.specs.Entry.{effectAt, GivenEntry, GivenFirst, given-entry, wrote-itself}
+use Rattle.effects.specs.Listing.{allListedAs, Wrote, GivenChildren, ListedChildren, GivenTree, ListedTree, wrote-none, wrote-both, wrote-as}
+use Rattle.effects.specs.Entry.{effectAt, GivenEntry, given-entry, wrote-itself}
+use Rattle.readings.specs.Input.{Input, input-node}
+use Rattle.readings.specs.First.{GivenFirst}
 
 module _ {s : List ℕ} {at size depth : ℕ} {st : Settings} where
   pub plan-at : (P : Plan) → Plans s at st P → (t : Tree) → Input s at size depth (one t) → Planned st t P

@@ -8,11 +8,12 @@ use Rattle.tree.specs.Tree.{node}
 use Rattle.tree.specs.Fields.{start}
 use Rattle.rules.specs.Settings.{Settings}
 use Rattle.readings.specs.Node.{SomeNode}
-use Rattle.effects.specs.Split.{some-size}
+use Rattle.readings.specs.Split.{some-size}
 use Rattle.effects.specs.Plan.{Plans}
 use Rattle.effects.specs.declared.listing.Part.{Part}
 use Rattle.effects.specs.declared.plan.Plan.{Plan}
-use Rattle.effects.specs.Listing.{GivenTree, ListedTree, input-node}
+use Rattle.effects.specs.Listing.{GivenTree, ListedTree}
+use Rattle.readings.specs.Input.{input-node}
 
 -- A part and a plan as the match found them.
 pub as-part : {s : List ℕ} {at size depth : ℕ} {st : Settings} {part : Part} (q : Part) {pos room : ℕ} → part ≡ q → GivenTree s at size depth st part pos room → GivenTree s at size depth st q pos room

@@ -1,6 +1,5 @@
 pub mod Listing
 pub mod Entry
-pub mod Split
 pub mod Plan
 pub mod Given
 pub mod Children

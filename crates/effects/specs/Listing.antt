@@ -7,13 +7,10 @@ use native.Mathlib.Omega.{arith}
 use lib.ListN.{length, set, length-append}
 use lib.Seq.{sets}
 use Rattle.tree.specs.Tree.{Forest, Tree, trees, one, levels}
-use Rattle.tree.specs.Children.{formed}
-use Rattle.tree.specs.Fields.{start}
-use Rattle.tree.specs.Walk.{Holds}
 use Rattle.rules.specs.Lists.{concatMap}
 use Rattle.rules.specs.Settings.{Settings}
 use Rattle.rules.specs.Effects.{evaluate, effects, coercion}
-use Rattle.readings.specs.Node.{Node}
+use Rattle.readings.specs.Input.{Input}
 use Rattle.effects.specs.declared.listing.Part.{Part}
 use Rattle.effects.specs.declared.listing.Part.the-variants.{InOrder, Coerced, Key, Static}
 
@@ -29,14 +26,6 @@ listedAs s Static t = evaluate s t .static
 
 abbrev pub allListedAs : Settings → Part → Forest → List ℕ
 allListedAs s part f = concatMap (listedAs s part) (trees f)
-
--- A list of trees that stands from record `at` on, in `size` records, is well-formed, and has `depth` levels at most.
-pub record Input (s : List ℕ) (at size depth : ℕ) (f : Forest) : Type 0 where
-  pub holds : Holds s at size f
-  pub ok : formed f ≡ true
-  pub low : levels f ≤ depth
-  pub inside : start (at + size) ≤ length s
-  pub small : size < 65536
 
 -- The entries from pos on are those of l, up to next, and no other entry has changed.
 pub record Wrote (old new : List ℕ) (pos next : ℕ) (l : List ℕ) : Type 0 where
@@ -79,6 +68,3 @@ wrote-both {a} {b} {c} {p} {q} {r} {l} {m} x y = record {
 
 pub wrote-as : {a b : List ℕ} {p q : ℕ} {l m : List ℕ} → Wrote a b p q l → l ≡ m → Wrote a b p q m
 wrote-as {a} {b} {p} {q} w e = subst (λ (x : List ℕ). Wrote a b p q x) e w
-
-pub input-node : {s : List ℕ} {at size depth : ℕ} {t : Tree} → Input s at size depth (one t) → Node s at t
-input-node i = record { stands = i .holds .stands; inside = omega (arith, i .inside, i .holds .sized) }

@@ -269,21 +269,6 @@ module _ (s : Settings) (t : Tree) where
         ) in
         in-order (others k) e′ (others-in-order s t (map (evaluated s) ts) k)
 
--- The tests of a record for an addition.
-module _ {b : List ℕ} {i : ℕ} (k : ℕ) (ek : k ≡ headAt b i .kind) where
-  pub no-addition : (k ≡ kind.binary → ⊥) → Tells b i isAddition false
-  unfolding isAddition isKind
-  no-addition n = record { by = λ t d. sym (rw (ne-eqb (t .head .kind) kind.binary (λ e. n (ek ∙ ap (λ (h : Head). h .kind) (d .stands .0) ∙ e)))) }
-
-  pub addition-by-sub : k ≡ kind.binary → (u : ℕ) → u ≡ headAt b i .sub → Tells b i isAddition (eqb u 2)
-  unfolding isAddition isKind
-  addition-by-sub e u eu = record {
-    by = λ t d.
-        let x : t .head .kind ≡ kind.binary = sym (ek ∙ ap (λ (h : Head). h .kind) (d .stands .0)) ∙ e in
-        let y : u ≡ t .head .sub = eu ∙ ap (λ (h : Head). h .sub) (d .stands .0) in
-        ap (λ (z : ℕ). eqb z 2) y ∙ sym (ap (λ (w : Bool). w && eqb (t .head .sub) 2) (eq-eqb (t .head .kind) kind.binary x));
-  }
-
 -- The derived setting, as the code reads it.
 pub derived-is : (n : ℕ) → eqb (n / 4 % 2) 1 ≡ derived (record { byte = n })
 unfolding derived

@@ -20,11 +20,12 @@ use Rattle.tree.specs.Accepted.{passed, counted-parts, Accepted, accepted}
 use Rattle.file.specs.Answer.{verdict, verdict-refused, verdict-accepted}
 use Rattle.rules.specs.Effects.{effects}
 use Rattle.rules.specs.Theorems.{few-effects}
-use Rattle.effects.specs.Listing.{settingsWith, Input, GivenTree, ListedTree}
+use Rattle.effects.specs.Listing.{settingsWith, GivenTree, ListedTree}
 use Rattle.effects.specs.Answer.{number, effectList, Answers}
 use Rattle.effects.specs.declared.listing.Part.the-variants.{InOrder}
 use Rattle.effects.specs.declared.Listed.the-variants.{Refused, Count}
 use Rattle.tree.specs.Kind as kind
+use Rattle.readings.specs.Input.{Input}
 
 pub refused-file : (s : List ℕ) (n : ℕ) {old : List ℕ} → refused n ≡ verdict listEffectsLimits s → Answers s old old (Refused n)
 unfolding number

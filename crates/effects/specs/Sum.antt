@@ -17,13 +17,14 @@ use Rattle.rules.specs.Facts.{flagged, possibleSymbol, stringFact, isStringRule
 use Rattle.rules.specs.Effects.{effects, effectsOf, itself, itselfIf, coercion, coercionNumber, additionEffect}
 use Rattle.readings.specs.Node.{Node, Tells}
 use Rattle.tree.specs.Kind as kind
-use Rattle.effects.specs.Split.{first-node, first-input, rest-input, some-size, kids-input}
+use Rattle.readings.specs.Split.{first-node, first-input, rest-input, some-size, kids-input}
 use Rattle.effects.specs.Plan.{Planned, Plans, plan-addition}
 use Rattle.effects.specs.declared.listing.Part.the-variants.{InOrder}
 use Rattle.effects.specs.declared.plan.Plan.the-variants.{Addition}
-use Rattle.effects.specs.Listing.{Input, Wrote, GivenTree, ListedTree, wrote-both, wrote-as, input-node}
+use Rattle.effects.specs.Listing.{Wrote, GivenTree, ListedTree, wrote-both, wrote-as}
 use Rattle.effects.specs.Entry.{effectAt, GivenEntry, given-entry, wrote-itself, wrote-coercion}
 use Rattle.effects.specs.Expression.{plan-at}
+use Rattle.readings.specs.Input.{Input, input-node}
 
 -- The string answer beside what was listed.
 pub record ListedSide (s : List ℕ) (at size depth : ℕ) (st : Settings) (old new : List ℕ) (pos next : ℕ) (string : Bool) : Type 0 where

@@ -1,10 +1,10 @@
-// One entry of the list, and the records of a node's first child.
+// One entry of the list.
 ghost use mathlib.Core.Path.{_≡_};
 ghost use Prim.Native.Nat.{_+_, _<_, _≤_};
 ghost use lib.ListN.{length};
 ghost use Rattle.rules.specs.Lists.{keepIf};
 ghost use Rattle.effects.specs.Listing.{Wrote};
-ghost use Rattle.effects.specs.Entry.{effectAt, GivenEntry, GivenFirst, firstSize};
+ghost use Rattle.effects.specs.Entry.{effectAt, GivenEntry};
 
 // Lists the node at record at, or its coercion, where `when` says so.
 pub fn list_if(
@@ -25,15 +25,4 @@ pub fn list_if(
         return pos + 1;
     }
     pos
-}
-
-// How many records the first `has` children of record at take, none or one.
-pub fn first_size(src: &[u8], at: usize, has: usize) -> usize
-    requires { ⌜ GivenFirst (now src) at has ⌝ }
-    ensures { λ r. ⌜ r ≡ firstSize (now (src .entry)) at has ⌝ }
-{
-    if has == 0 {
-        return 0;
-    }
-    fields::subtree_at(src, at + 1)
 }

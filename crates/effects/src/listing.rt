@@ -74,7 +74,7 @@ fn list_child(
             entry::list_if(src, at, symbol, 1, out, next)
         }
         Part::Key => {
-            let key = entry::first_size(src, at, fields::sub_at(src, at) / 16 % 2);
+            let key = readings::first_size(src, at, fields::sub_at(src, at) / 16 % 2);
             let first = at + 1;
             let below = depth - 1;
             list_children(src, first, key, Part::InOrder, below, settings, out, pos)
@@ -98,7 +98,7 @@ fn list_static(
 {
     let block = readings::nonempty_static_block_at(src, at);
     if readings::has_static_value_at(src, at) {
-        let key = entry::first_size(src, at, fields::sub_at(src, at) / 16 % 2);
+        let key = readings::first_size(src, at, fields::sub_at(src, at) / 16 % 2);
         let value = at + 1 + key;
         let left = size - 1 - key;
         let below = depth - 1;
@@ -134,7 +134,7 @@ pub fn list_expr(
         }
         Plan::Coerced => list_children(src, first, rest, Part::Coerced, below, settings, out, pos),
         Plan::Arguments => {
-            let callee = entry::first_size(src, at, 1);
+            let callee = readings::first_size(src, at, 1);
             let start = first + callee;
             let left = rest - callee;
             list_children(src, start, left, Part::InOrder, below, settings, out, pos)
@@ -160,7 +160,7 @@ fn list_left(
     requires { ⌜ GivenTree (now src) at size depth (settingsWith settings) Part.InOrder pos (length (now out)) ⌝ }
     ensures { λ r. ⌜ ListedSide (now (src .entry)) at size depth (settingsWith settings) (now (out .entry)) (now (out .exit)) pos (r .next) (r .string) ⌝ }
 {
-    if plan::is_addition(src, at) {
+    if readings::is_addition(src, at) {
         return list_addition(src, at, size, depth, settings, out, pos);
     }
     let next = list_expr(src, at, size, depth, settings, out, pos);
@@ -218,7 +218,7 @@ fn list_class(
     requires { ⌜ GivenClass (now src) at size depth (settingsWith settings) pos (length (now out)) ⌝ }
     ensures { λ r. ⌜ ListedTree (now (src .entry)) at size depth (settingsWith settings) Part.InOrder (now (out .entry)) (now (out .exit)) pos r ⌝ }
 {
-    let base = entry::first_size(src, at, fields::sub_at(src, at) / 2 % 2);
+    let base = readings::first_size(src, at, fields::sub_at(src, at) / 2 % 2);
     let first = at + 1;
     let below = depth - 1;
     let next = list_children(src, first, base, Part::InOrder, below, settings, out, pos);

@@ -4,8 +4,7 @@ ghost use mathlib.Core.Path.{_≡_};
 ghost use Prim.Native.Nat.{_+_, _≤_};
 ghost use lib.ListN.{length};
 ghost use Rattle.tree.specs.Fields.{start};
-ghost use Rattle.rules.specs.Handler.{isAddition};
-ghost use Rattle.readings.specs.Node.{SomeNode, Tells};
+ghost use Rattle.readings.specs.Node.{SomeNode};
 ghost use Rattle.effects.specs.Listing.{settingsWith};
 ghost use Rattle.effects.specs.Plan.{Plans, PlansAfter, PlansOf, itselfOr};
 ghost use Rattle.tree.specs.Kind.{unary, binary};
@@ -21,16 +20,6 @@ pub enum Plan {
     Arguments,
     Addition,
     Class,
-}
-
-pub fn is_addition(src: &[u8], at: usize) -> bool
-    requires { ⌜ start (at + 1) ≤ length (now src) ⌝ }
-    ensures { λ r. ⌜ Tells (now (src .entry)) at isAddition r ⌝ }
-{
-    if fields::kind_at(src, at) == kind::BINARY {
-        return fields::sub_at(src, at) == 2;
-    }
-    false
 }
 
 fn itself_if(when: bool) -> Plan

@@ -3,3 +3,7 @@ pub mod Steps
 pub mod Walk
 pub mod Sequence
 pub mod Class
+pub mod Input
+pub mod First
+pub mod Split
+pub mod Element

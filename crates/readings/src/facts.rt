@@ -1,7 +1,9 @@
-// A node's own facts.
+// What a node's own record says of it.
+use fields::kind;
 ghost use Prim.Native.Nat.{_+_, _≤_};
 ghost use lib.ListN.{length};
 ghost use Rattle.tree.specs.Fields.{start};
+ghost use Rattle.rules.specs.Handler.{isAddition};
 ghost use Rattle.rules.specs.Facts.{flagged, possibleSymbol, stringFact};
 ghost use Rattle.readings.specs.Node.{Tells};
 
@@ -24,4 +26,14 @@ pub fn string_fact_at(src: &[u8], i: usize) -> bool
     ensures { λ r. ⌜ Tells (now (src .entry)) i stringFact r ⌝ }
 {
     fields::facts_at(src, i) / 8 % 4 == 2
+}
+
+pub fn is_addition(src: &[u8], at: usize) -> bool
+    requires { ⌜ start (at + 1) ≤ length (now src) ⌝ }
+    ensures { λ r. ⌜ Tells (now (src .entry)) at isAddition r ⌝ }
+{
+    if fields::kind_at(src, at) == kind::BINARY {
+        return fields::sub_at(src, at) == 2;
+    }
+    false
 }

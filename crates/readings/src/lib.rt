@@ -2,6 +2,7 @@
 mod calls;
 mod class;
 mod facts;
+mod first;
 mod sequence;
 
 pub use calls::first_is;
@@ -17,7 +18,9 @@ pub use class::has_heritage;
 pub use class::has_static_value_at;
 pub use class::nonempty_static_block_at;
 pub use facts::flagged_at;
+pub use facts::is_addition;
 pub use facts::possible_symbol_at;
 pub use facts::string_fact_at;
+pub use first::first_size;
 pub use sequence::last_child;
 pub use sequence::last_expression_in_sequence;

@@ -6,10 +6,10 @@ use Rattle.effects.specs.declared.listing.Part.the-variants.{InOrder, Co
 use Rattle.effects.specs.declared.plan.Plan.the-variants.{Nothing, Itself, Children, ChildrenThenItself, Arguments, Addition, Class}
 use Rattle.effects.specs.declared.plan.Plan.the-variants as plan
 use Rattle.effects.specs.Listing.{settingsWith}
-use Rattle.effects.specs.Split.{some-depth, some-size}
+use Rattle.readings.specs.Split.{some-depth, some-size}
 use Rattle.effects.specs.Given.{as-part, for-part, as-plan, given-node, given-inside}
 use Rattle.effects.specs.Children.{Walking, walk-start, walk-done, walk-subtree, child-some, child-within, child-given, walk-on}
-use Rattle.effects.specs.Child.{coerced-given, coerced-entry, coerced-done, key-first, key-within, key-given, key-done, value-given, block-given, static-done, only-block-given, only-block-done}
+use Rattle.effects.specs.Child.{coerced-given, coerced-entry, coerced-done, element-first, key-within, key-given, key-done, value-given, block-given, static-done, only-block-given, only-block-done}
 use Rattle.effects.specs.Expression.{nothing-done, itself-given, itself-done, children-given, children-done, then-given, then-entry, then-done, template-given, template-done, callee-first, callee-within, arguments-given, arguments-done}
 use Rattle.effects.specs.Sum.{sum-planned, sum-told, left-inside, left-given, right-inside, right-given, right-coercion, right-done, left-coercion, left-done, sum-itself, sum-done, side-other}
 use Rattle.effects.specs.Class.{class-planned, heritage-first, heritage-within, heritage-given, class-itself, keys-given, statics-given, class-done}
@@ -36,9 +36,9 @@ use Rattle.effects.proofs.listing.+list_addition+list_child+list_childr
 use Rattle.effects.proofs.listing.list_static.Reads as list-static
 use Rattle.effects.proofs.listing.list_static.Kinds as list-static-kinds
 use Rattle.effects.proofs.listing.+list_addition+list_child+list_children+list_class+list_expr+list_left+list_static.Lts-list_static as list-static-lts
-use Rattle.effects.proofs.entry.first_size.Reads as first-size-reads
+use Rattle.readings.proofs.first_size.Reads as first-size-reads
 use Rattle.effects.proofs.entry.list_if.Reads as list-if-reads
-use Rattle.effects.proofs.plan.is_addition.Reads as is-addition-reads
+use Rattle.readings.proofs.is_addition.Reads as is-addition-reads
 use Rattle.effects.proofs.plan.plan_of.Reads as plan-of-reads
 use Rattle.fields.proofs.sub_at.Reads as sub-at-reads
 use Rattle.fields.proofs.subtree_at.Reads as subtree-at-reads
@@ -259,7 +259,7 @@ list-child-sub-at-requires : (t : ℕ) → list-child-lts.Need-sub-at-requires (
 list-child-sub-at-requires t c κs = given-inside (c .before .before .before .before .pre .1)
 
 list-child-first-size-requires : (t : ℕ) → list-child-lts.Need-first-size-requires (list-child-calls t) (list-child-at t) list-child.Post
-list-child-first-size-requires t c κs = key-first _ _ (c .sub-at .ensures .0) refl (c .before .before .before .before .before .pre .1)
+list-child-first-size-requires t c κs = element-first _ _ (c .sub-at .ensures .0) refl (c .before .before .before .before .before .pre .1)
 
 list-child-add-first : (t : ℕ) → list-child-lts.Need-add-first (list-child-calls t) (list-child-at t) list-child.Post
 list-child-add-first t c = omega (arith, given-inside (c .before .before .before .before .before .before .pre .1))
@@ -523,7 +523,7 @@ list-static-sub-at-requires : (t : ℕ) → list-static-lts.Need-sub-at-requires
 list-static-sub-at-requires t c κs = given-inside (c .before .before .before .before .before .pre .1)
 
 list-static-first-size-requires : (t : ℕ) → list-static-lts.Need-first-size-requires (list-static-calls t) (list-static-at t) list-static.Post
-list-static-first-size-requires t c κs = key-first _ _ (c .sub-at .ensures .0) refl (c .before .before .before .before .before .before .pre .1)
+list-static-first-size-requires t c κs = element-first _ _ (c .sub-at .ensures .0) refl (c .before .before .before .before .before .before .pre .1)
 
 list-static-add-value : (t : ℕ) → list-static-lts.Need-add-value (list-static-calls t) (list-static-at t) list-static.Post
 list-static-add-value t c = omega (arith, given-inside (c .before .before .before .before .before .before .before .pre .1))

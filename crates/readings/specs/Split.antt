@@ -10,8 +10,8 @@ use Rattle.tree.specs.Below.{and-both, and-left, and-right}
 use Rattle.tree.specs.Children.{nodeOk, formed}
 use Rattle.tree.specs.Fields.{start, subtreeAt}
 use Rattle.tree.specs.Walk.{first-of}
-use Rattle.effects.specs.Listing.{Input}
-use Rattle.effects.specs.Entry.{firstSize, GivenFirst}
+use Rattle.readings.specs.Input.{Input}
+use Rattle.readings.specs.First.{firstSize, GivenFirst}
 
 -- The first tree of a list, the trees after it, and its own children.
 module _ {s : List ℕ} {at size depth : ℕ} {h : Head} {cs rest : Forest} (i : Input s at size depth (node h cs rest)) where

@@ -1,8 +1,8 @@
 use native.Mathlib.Omega.{arith}
 use mathlib.Core.Path.{_∙_}
-use Rattle.effects.specs.Entry.{first-some}
-use Rattle.effects.proofs.entry.first_size.Statement.{statement}
-use Rattle.effects.proofs.entry.first_size.Tie as tie
+use Rattle.readings.specs.First.{first-some}
+use Rattle.readings.proofs.first.first_size.Statement.{statement}
+use Rattle.readings.proofs.first.first_size.Tie as tie
 
 returns : tie.Need-returns
 returns c = rw (c .if1 .taken)

@@ -1,7 +1,7 @@
-use Rattle.effects.specs.Plan.{no-addition, addition-by-sub}
+use Rattle.readings.specs.Steps.{no-addition, addition-by-sub}
 use borrow.Author.Needs.{needs}
-use Rattle.effects.proofs.plan.is_addition.Statement.{statement}
-use Rattle.effects.proofs.plan.is_addition.Tie as tie
+use Rattle.readings.proofs.facts.is_addition.Statement.{statement}
+use Rattle.readings.proofs.facts.is_addition.Tie as tie
 
 kind-at-requires : tie.Need-kind-at-requires
 kind-at-requires c κs = search needs
