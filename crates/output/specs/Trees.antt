@@ -22,6 +22,7 @@ pub record Wrote (old new : List ℕ) (pos next : ℕ) (ts : List Tree) : Type 0
 -- Whatever tree stands at record `at` of s, it was written from record pos to record r.
 pub record CopiedTree (s : List ℕ) (at size : ℕ) (old new : List ℕ) (pos r : ℕ) : Type 0 where
   pub by : (t : Tree) → Stands s at (one t) → size ≡ suc (records (t .kids)) → Wrote old new pos r (t ∷ [])
+  pub frame : Agree old new (start pos)
   pub ends : r ≡ pos + size
 
 -- A list stands where its bytes are copied to.
@@ -87,6 +88,7 @@ copied-tree {s} {at} {size} {old} {new} {pos} m = record {
     };
     frame = m .below;
   };
+  frame = m .below;
   ends = refl;
 }
 

@@ -1,0 +1,117 @@
+-- A list that stands behind a free record, and what it becomes: none, one or several trees left.
+use mathlib.Core.Path.{_≡_, refl, sym, ap, _∙_}
+use mathlib.Core.Bool.{Bool, true, false, cond}
+use mathlib.Core.List.{List, [], _∷_}
+use Prim.Native.Nat.{ℕ, suc, _+_, _*_, _-_, _<_, _≤_}
+use native.Mathlib.Omega.{arith}
+use lib.ListN.{length}
+use Rattle.tree.specs.Tree.{Head, Tree, forest, records}
+use Rattle.tree.specs.Fields.{start, headAt, subtreeAt}
+use Rattle.rules.specs.Lists.{any}
+use Rattle.rules.specs.Handler.{isSpread}
+use Rattle.rules.specs.Made.{placeOf, makeSequence, withChildren}
+use Rattle.rules.specs.Reduce.{noneOneSeveral, staysWith, joinKept}
+use Rattle.output.specs.Bytes.{Recorded, Shifted, agree-all}
+use Rattle.output.specs.Trees.{Spans, Wrote, wrote-none, wrote-as, stands-copied, recorded-node}
+use Rattle.output.specs.Lists.{Spanned, Counts, AnyOf, spanned-inside}
+use Rattle.rewrite.specs.Made.{GivenMade, Makes}
+
+-- The node at record `at` of s, and some list behind the free record pos of out.
+pub record GivenList (s : List ℕ) (at : ℕ) (out : List ℕ) (pos end : ℕ) : Type 0 where
+  pub node-inside : start (at + 1) ≤ length s
+  pub list : List Tree
+  pub spans : Spans out (pos + 1) end list
+  pub inside : start end ≤ length out
+  pub small : end < pos + 65536
+
+-- Whatever node t stands at record `at` of s, and whatever list behind record pos: f t of the list was written from there to r.
+pub record Becomes (f : Tree → List Tree → List Tree) (s : List ℕ) (at : ℕ) (old new : List ℕ) (pos end r : ℕ) : Type 0 where
+  pub by : (t : Tree) → headAt s at ≡ t .head → (ts : List Tree) → Spans old (pos + 1) end ts → Wrote old new pos r (f t ts)
+
+abbrev pub noneOneSeveralOf : Tree → List Tree → List Tree
+noneOneSeveralOf t ts = noneOneSeveral (placeOf t) ts
+
+abbrev pub arrayOf : Tree → List Tree → List Tree
+arrayOf t ts = cond (any isSpread ts) (staysWith t ts) (noneOneSeveral (placeOf t) ts)
+
+abbrev pub joinKeptOf : Tree → List Tree → List Tree
+joinKeptOf t ts = joinKept (placeOf t) ts
+
+module _ {s : List ℕ} {at : ℕ} {out : List ℕ} {pos end : ℕ} (g : GivenList s at out pos end) where
+  pub list-spanned : Spanned out (pos + 1) end
+  list-spanned = record { list = g .list; spans = g .spans; inside = g .inside }
+
+  pub list-made : {place : ℕ} → place < 4294967296 → GivenMade out pos end place
+  list-made l = record { list = g .list; spans = g .spans; inside = g .inside; small = g .small; place-small = l }
+
+  pub list-after : pos + 1 ≤ end
+  list-after = omega (arith, g .spans .ends)
+
+  pub first-inside : (end ≡ pos + 1 → ⊥) → start (pos + 1 + 1) ≤ length out
+  first-inside n = go (g .list) (g .spans)
+    where
+      go : (ts : List Tree) → Spans out (pos + 1) end ts → start (pos + 1 + 1) ≤ length out
+      go [] d = absurd (n (omega (arith, d .ends)))
+      go (t ∷ ts) d = omega (arith, d .ends, g .inside)
+
+-- An empty list becomes nothing.
+module _ {s : List ℕ} {at : ℕ} {old : List ℕ} {pos end : ℕ} (e : end ≡ pos + 1) where
+  none-left : (f : Tree → List Tree → List Tree) → ((t : Tree) → f t [] ≡ []) → Becomes f s at old old pos end pos
+  none-left f x = record { by = λ t h ts d. go t ts d }
+    where
+      go : (t : Tree) (ts : List Tree) → Spans old (pos + 1) end ts → Wrote old old pos pos (f t ts)
+      go t [] d = wrote-as (wrote-none (agree-all old (start pos))) (sym (x t))
+      go t (y ∷ ys) d = absurd (omega (arith, d .ends))
+
+  pub none-one-several-none : Becomes noneOneSeveralOf s at old old pos end pos
+  none-one-several-none = none-left noneOneSeveralOf (λ t. refl)
+
+  pub stays-none : Becomes staysWith s at old old pos end pos
+  stays-none = none-left staysWith (λ t. refl)
+
+  pub join-none : Becomes joinKeptOf s at old old pos end pos
+  join-none = none-left joinKeptOf (λ t. refl)
+
+-- One tree, by its size z: moved down.
+pub one-left : {s : List ℕ} {at : ℕ} {old new : List ℕ} {pos end z : ℕ} → z ≡ subtreeAt old (pos + 1) → (end ≡ pos + 1 → ⊥) → pos + 1 + z ≡ end → Shifted old new (start pos) (16 * z) → Becomes noneOneSeveralOf s at old new pos end (end - 1)
+one-left {s} {at} {old} {new} {pos} {end} {z} ez n e m = record { by = λ t h ts d. go t ts d }
+  where
+    go : (t : Tree) (ts : List Tree) → Spans old (pos + 1) end ts → Wrote old new pos (end - 1) (noneOneSeveral (placeOf t) ts)
+    go t [] d = absurd (n (omega (arith, d .ends)))
+    go t (x ∷ []) d =
+        let y : 16 * z ≡ 16 * records (forest (x ∷ [])) = omega (arith, d .stands .2) in
+        let w : start pos + 16 ≡ start (pos + 1) = omega arith in
+        record {
+          spans = record { stands = stands-copied (forest (x ∷ [])) (pos + 1) pos (rw (y, w) at (m .there)) (d .stands); ends = omega (arith, d .ends) };
+          frame = m .below;
+        }
+    go t (x ∷ y ∷ ys) d = absurd (omega (arith, d .ends, d .stands .2))
+
+-- More than one, by the first one's size z.
+module _ {s : List ℕ} {at : ℕ} {old : List ℕ} {pos end z : ℕ} (ez : z ≡ subtreeAt old (pos + 1)) (n : end ≡ pos + 1 → ⊥) where
+  pub several-left : {new : List ℕ} {place : ℕ} → (pos + 1 + z ≡ end → ⊥) → place ≡ headAt s at .place → Makes makeSequence old new pos end place → Becomes noneOneSeveralOf s at old new pos end end
+  several-left {new} {place} e ep m = record { by = λ t h ts d. go t (ep ∙ ap (λ (x : Head). x .place) h) ts d }
+    where
+      go : (t : Tree) → place ≡ t .head .place → (ts : List Tree) → Spans old (pos + 1) end ts → Wrote old new pos end (noneOneSeveral (placeOf t) ts)
+      go t p [] d = absurd (n (omega (arith, d .ends)))
+      go t p (x ∷ []) d = absurd (e (omega (arith, d .ends, d .stands .2)))
+      go t p (x ∷ y ∷ ys) d = wrote-as (m .by (x ∷ y ∷ ys) d) (ap (λ (q : ℕ). makeSequence q (x ∷ y ∷ ys) ∷ []) p)
+
+-- The node itself over what is left.
+pub stays-some : {s : List ℕ} {at : ℕ} {old new : List ℕ} {pos end n z : ℕ} → (end ≡ pos + 1 → ⊥) → Counts old (pos + 1) end n → z ≡ end - pos → Recorded old new pos (headAt s at) n z → Becomes staysWith s at old new pos end end
+unfolding withChildren
+stays-some {s} {at} {old} {new} {pos} {end} {n} {z} ne c ez r = record { by = λ t h ts d. go t h ts d }
+  where
+    go : (t : Tree) → headAt s at ≡ t .head → (ts : List Tree) → Spans old (pos + 1) end ts → Wrote old new pos end (staysWith t ts)
+    go t h [] d = absurd (ne (omega (arith, d .ends)))
+    go t h (x ∷ xs) d =
+        wrote-as (recorded-node (x ∷ xs) (agree-all old (start pos)) d r (c .by (x ∷ xs) d) (omega (arith, d .ends)))
+        (ap (λ (y : Head). record { head = y; kids = forest (x ∷ xs) } ∷ []) h)
+
+-- An array, by whether a spread is left.
+module _ {s : List ℕ} {at : ℕ} {old : List ℕ} {pos end : ℕ} {b : Bool} (a : AnyOf old (pos + 1) end isSpread b) where
+  pub array-stays : b ≡ true → {new : List ℕ} {r : ℕ} → Becomes staysWith s at old new pos end r → Becomes arrayOf s at old new pos end r
+  array-stays x w = record { by = λ t h ts d. wrote-as (w .by t h ts d) (sym (ap (λ (y : Bool). cond y (staysWith t ts) (noneOneSeveral (placeOf t) ts)) (sym (a .by ts d) ∙ x))) }
+
+  pub array-goes : b ≡ false → {new : List ℕ} {r : ℕ} → Becomes noneOneSeveralOf s at old new pos end r → Becomes arrayOf s at old new pos end r
+  array-goes x w = record { by = λ t h ts d. wrote-as (w .by t h ts d) (sym (ap (λ (y : Bool). cond y (staysWith t ts) (noneOneSeveral (placeOf t) ts)) (sym (a .by ts d) ∙ x))) }

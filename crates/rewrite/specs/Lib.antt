@@ -1,0 +1,4 @@
+pub mod Made
+pub mod Becomes
+pub mod Join
+pub mod Waiting
