@@ -48,6 +48,13 @@ pub fn subtree_at(src: &[u8], i: usize) -> usize
     le::get16(src, 8 + 16 * i + 6)
 }
 
+pub fn text_at(src: &[u8], i: usize) -> usize
+    requires { ⌜ start (i + 1) ≤ length (now src) ⌝ }
+    ensures { λ r. ⌜ (r ≡ headAt (now (src .entry)) i .text) × (r < 4294967296) ⌝ }
+{
+    le::get32(src, 8 + 16 * i + 8)
+}
+
 pub fn place_at(src: &[u8], i: usize) -> usize
     requires { ⌜ start (i + 1) ≤ length (now src) ⌝ }
     ensures { λ r. ⌜ (r ≡ headAt (now (src .entry)) i .place) × (r < 4294967296) ⌝ }

@@ -1,33 +1,32 @@
 -- A class's heritage and elements, as they stand by record.
 use mathlib.Core.Path.{_≡_, refl, sym, ap, subst, _∙_}
-use mathlib.Core.Bool.{Bool, true, false, not, _||_, true≢false, or-false}
+use mathlib.Core.Bool.{Bool, true, false, cond, not, _||_, true≢false, or-false, or-assoc}
 use mathlib.Core.List.{List, [], _∷_}
-use Prim.Native.Nat.{ℕ, zero, suc, _+_, _-_, _/_, _%_, _<_, _≤_}
+use Prim.Native.Nat.{ℕ, zero, suc, _+_, _-_, _/_, _%_, _<_}
 use native.Mathlib.Omega.{arith}
 use lib.Dec.{eqb}
 use lib.ListN.{take, drop}
-use Rattle.tree.specs.Tree.{Head, Forest, nil, node, Tree, trees, forest, trees-forest, count, records, size}
+use Rattle.tree.specs.Tree.{Head, Forest, nil, node, Tree, trees, count, records, size}
 use Rattle.tree.specs.Fields.{headAt, childrenAt, subtreeAt}
+use Rattle.tree.specs.Record.{bit}
 use Rattle.tree.specs.Children as children
-use Rattle.tree.specs.Walk.{Holds, first-of}
+use Rattle.tree.specs.Walk.{Holds}
 use Rattle.rules.specs.Lists.{isEmpty, any}
 use Rattle.rules.specs.Handler.{isKind, isArrow}
-use Rattle.rules.specs.Class.{heritage, elements, arrowHeritage, lastExpressionInSequence}
+use Rattle.rules.specs.Facts.{flagged}
+use Rattle.rules.specs.Class.{heritage, elements, valueOf, hasStaticValue, decoratedClass, decoratedElement, indexSignature, nonemptyStaticBlock, flaggedStaticValue, arrowHeritage, lastExpressionInSequence, keptClass}
 use Rattle.readings.specs.Node.{Node, SomeNode, Tells, Finds}
-use Rattle.readings.specs.Walk.{node-children, some-children, first-node, held-first, AnyWalked}
+use Rattle.readings.specs.Walk.{node-children, some-children, first-node, held-first, ListAt, list-same}
+use Rattle.readings.specs.Children.{any-or}
 use Rattle.readings.specs.Sequence.{lastOrItself, arrow-last}
 
 -- "class (sub bit 0 decorated, 1 heritage first)"
 unfoldable pub hasHeritage : Tree → Bool
 hasHeritage t = not (isEmpty (heritage t))
 
--- The elements of the class t at record i stand from record r on, to where it ends.
-pub record ElementsOf (s : List ℕ) (i : ℕ) (t : Tree) (r : ℕ) : Type 0 where
-  pub within : r ≤ i + size t
-  pub holds : Holds s r (i + size t - r) (forest (elements t))
-
-pub record ElementsAt (s : List ℕ) (i r : ℕ) : Type 0 where
-  pub by : (t : Tree) → Node s i t → ElementsOf s i t r
+-- An element that keeps its class: "any element decorated, an index signature, a nonempty static block, a flagged static value".
+unfoldable pub keepsClass : Tree → Bool
+keepsClass e = decoratedElement e || (indexSignature e || (nonemptyStaticBlock e || flaggedStaticValue e))
 
 -- Of a list's first m, m a bit.
 none-empty : (m : ℕ) → not (isEmpty (take {A = Tree} m [])) ≡ false
@@ -56,18 +55,7 @@ module _ {s : List ℕ} {i k : ℕ} (e : k ≡ childrenAt s i) where
       go h nil c = absurd (z (e ∙ c))
       go h (node x cs rest) c = bit-first (children.heritage h) (omega arith) (record { head = x; kids = cs }) (trees rest)
 
-forest-trees : (f : Forest) → forest (trees f) ≡ f
-forest-trees nil = refl
-forest-trees (node h cs rest) = ap (node h cs) (forest-trees rest)
-
--- With no heritage the elements are all the children.
-drop-none : (m : ℕ) → m < 2 → (f : Forest) → not (isEmpty (take m (trees f))) ≡ false → forest (drop m (trees f)) ≡ f
-drop-none zero l f e = forest-trees f
-drop-none (suc zero) l nil e = refl
-drop-none (suc zero) l (node h cs rest) e = absurd (true≢false e)
-drop-none (suc (suc m)) l f e = absurd (omega arith)
-
--- With heritage there is a first child, and the elements are those after it.
+-- With heritage there is a first child.
 data Split (m : ℕ) (f : Forest) : Type 0 where
   split : m ≡ 1 → (h : Head) (cs rest : Forest) → f ≡ node h cs rest → Split m f
 
@@ -87,29 +75,6 @@ module _ {s : List ℕ} {i : ℕ} {a : Bool} (w : Tells s i hasHeritage a) where
     where
       go : {m : ℕ} (f : Forest) → Split m f → subtreeAt s i ≡ suc (records f) → 0 < subtreeAt s i - 1
       go f (split x h cs rest y) z = let q = ap records y in omega arith
-
-  pub elements-all : a ≡ false → ElementsAt s i (i + 1)
-  unfolding hasHeritage
-  elements-all e = record {
-    by = λ t n.
-        let m : subtreeAt s i ≡ size t = n .stands .2 in
-        let y : subtreeAt s i - 1 ≡ i + size t - (i + 1) = omega arith in
-        let x : forest (elements t) ≡ t .kids = drop-none (children.heritage (t .head)) (omega arith) (t .kids) (sym (w .by t n) ∙ e) in
-        record { within = omega arith; holds = subst (λ (f : Forest). Holds s (i + 1) (i + size t - (i + 1)) f) (sym x) (rw y at (node-children t n)) };
-  }
-
-  pub elements-after : a ≡ true → (z : ℕ) → z ≡ subtreeAt s (i + 1) → ElementsAt s i (i + 1 + z)
-  elements-after e z ez = record { by = λ t n. go t (n .stands .2) (node-children t n) (split-node e t n) }
-    where
-      go : (t : Tree) → subtreeAt s i ≡ size t → Holds s (i + 1) (subtreeAt s i - 1) (t .kids) → Split (children.heritage (t .head)) (t .kids) → ElementsOf s i t (i + 1 + z)
-      go t m d (split x h cs rest y) =
-          let g = first-of h cs rest (subst (λ (f : Forest). Holds s (i + 1) (subtreeAt s i - 1) f) y d) in
-          let q : subtreeAt s i - 1 - z ≡ i + size t - (i + 1 + z) = omega (arith, g .within) in
-          let v : forest (elements t) ≡ rest = ap (λ (b : ℕ). forest (drop b (trees (t .kids)))) x ∙ ap (λ (f : Forest). forest (drop 1 (trees f))) y ∙ forest-trees rest in
-          record {
-            within = omega (arith, g .within);
-            holds = subst (λ (f : Forest). Holds s (i + 1 + z) (i + size t - (i + 1 + z)) f) (sym v) (rw (← ez, q) at (g .after));
-          }
 
   pub arrow-none : a ≡ false → Tells s i arrowHeritage false
   unfolding hasHeritage arrowHeritage
@@ -138,18 +103,39 @@ module _ {s : List ℕ} {i : ℕ} {a : Bool} (w : Tells s i hasHeritage a) where
           ∙ sym (or-false (arrow c))
           ∙ sym (ap (λ (b : ℕ). any arrow (take b (trees (t .kids)))) x ∙ ap (λ (g : Forest). any arrow (take 1 (trees g))) y)
 
--- The walk over the elements.
-pub elements-start : {s : List ℕ} {i p z : ℕ} → SomeNode s i → ElementsAt s i p → z ≡ subtreeAt s i → (q : Tree → Bool)
-    → AnyWalked s i p (i + z) (λ t. any q (elements t)) q
-elements-start {s} {i} {p} {z} n w e q = record {
-  inside = omega (arith, w .by (n .tree) (n .node) .within, n .node .stands .2);
-  held = record {
-    forest = forest (elements (n .tree));
-    holds = holds (n .tree) (n .node);
-    inside = omega (arith, w .by (n .tree) (n .node) .within, n .node .stands .2, n .node .inside);
-  };
-  tells = λ r a. record { by = λ t d. a .by (forest (elements t)) (holds t d) ∙ ap (any q) (trees-forest (elements t)) };
-}
-  where
-    holds : (t : Tree) → Node s i t → Holds s p (i + z - p) (forest (elements t))
-    holds t d = let m : i + size t - p ≡ i + z - p = omega (arith, d .stands .2) in rw m at (w .by t d .holds)
+-- The bits of the sub u that was read, and the elements by them.
+module _ {s : List ℕ} {i : ℕ} (u : ℕ) (e : u ≡ headAt s i .sub) where
+  bit-read : (b : ℕ) (t : Tree) → Node s i t → bit b (t .head .sub) ≡ bit b u
+  bit-read b t n = ap (bit b) (sym (e ∙ ap (λ (h : Head). h .sub) (n .stands .0)))
+
+  pub elements-list : {r : ℕ} → ListAt s i (λ t. drop (bit 1 u) (trees (t .kids))) r → ListAt s i elements r
+  elements-list w = list-same elements (λ t n. ap (λ (x : ℕ). drop x (trees (t .kids))) (bit-read 1 t n)) w
+
+-- The flag of a static value, by whether there is one.
+module _ {s : List ℕ} {i : ℕ} {a : Bool} (h : Tells s i hasStaticValue a) where
+  static-by : (x : Bool) → a ≡ x → (t : Tree) → Node s i t → flaggedStaticValue t ≡ any flagged (cond x (valueOf t (trees (t .kids))) [])
+  unfolding flaggedStaticValue
+  static-by x y t n = ap (λ (b : Bool). any flagged (cond b (valueOf t (trees (t .kids))) [])) (sym (h .by t n) ∙ y)
+
+  pub static-none : a ≡ false → Tells s i flaggedStaticValue false
+  static-none y = record { by = λ t n. sym (static-by false y t n) }
+
+  pub static-flagged : a ≡ true → (u : ℕ) → u ≡ headAt s i .sub → {r : Bool} → Tells s i (λ t. any flagged (drop (bit 4 u) (trees (t .kids)))) r
+      → Tells s i flaggedStaticValue r
+  static-flagged y u e w = record {
+    by = λ t n. w .by t n ∙ sym (static-by true y t n ∙ ap (λ (x : ℕ). any flagged (drop x (trees (t .kids)))) (bit-read u e 4 t n));
+  }
+
+-- A class by its elements one by one.
+pub kept-by-elements : (t : Tree) → (decoratedClass t || (any keepsClass (elements t) || arrowHeritage t)) ≡ keptClass t
+unfolding keptClass keepsClass
+kept-by-elements t =
+    let es = elements t in
+    rw (
+      any-or decoratedElement (λ e. indexSignature e || (nonemptyStaticBlock e || flaggedStaticValue e)) es,
+      any-or indexSignature (λ e. nonemptyStaticBlock e || flaggedStaticValue e) es,
+      any-or nonemptyStaticBlock flaggedStaticValue es,
+      or-assoc (any decoratedElement es) (any indexSignature es || (any nonemptyStaticBlock es || any flaggedStaticValue es)) (arrowHeritage t),
+      or-assoc (any indexSignature es) (any nonemptyStaticBlock es || any flaggedStaticValue es) (arrowHeritage t),
+      or-assoc (any nonemptyStaticBlock es) (any flaggedStaticValue es) (arrowHeritage t),
+    )

@@ -1,9 +1,10 @@
 pub mod Node
 pub mod Steps
 pub mod Walk
+pub mod First
+pub mod Children
 pub mod Sequence
 pub mod Class
 pub mod Input
-pub mod First
 pub mod Split
 pub mod Element

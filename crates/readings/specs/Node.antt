@@ -7,6 +7,11 @@ use lib.ListN.{length}
 use Rattle.tree.specs.Tree.{Tree, one, size}
 use Rattle.tree.specs.Fields.{start}
 use Rattle.tree.specs.Stands.{Stands}
+use Rattle.rules.specs.Settings.{Settings}
+
+-- "5 settings", the byte of a tree file.
+abbrev pub settingsWith : ℕ → Settings
+settingsWith byte = record { byte = byte }
 
 pub record Node (s : List ℕ) (i : ℕ) (t : Tree) : Type 0 where
   pub stands : Stands s i (one t)

@@ -1,6 +1,6 @@
 -- The steps of the readings, over the values that the code read.
 use mathlib.Core.Path.{_≡_, refl, sym, ap, _∙_}
-use mathlib.Core.Bool.{Bool, true, false, _&&_, _||_, or-false}
+use mathlib.Core.Bool.{Bool, true, false, not, _&&_, _||_, or-false}
 use mathlib.Core.List.{List}
 use Prim.Native.Nat.{ℕ, suc, _+_, _/_, _%_, _≤_}
 use native.Mathlib.Omega.{arith}
@@ -16,7 +16,7 @@ use Rattle.rules.specs.Settings.{annotations}
 use Rattle.rules.specs.Handler.{isKind, firstIs, isAddition}
 use Rattle.rules.specs.Facts.{annotated, listed, pureNew}
 use Rattle.tree.specs.Kind as kind
-use Rattle.readings.specs.Node.{Node, SomeNode, Tells}
+use Rattle.readings.specs.Node.{SomeNode, Tells}
 
 -- What is said of the head that was read is said of the tree's.
 tells-head : {s : List ℕ} {i : ℕ} (p : Head → Bool) {r : Bool} → r ≡ p (headAt s i) → Tells s i (λ t. p (t .head)) r
@@ -28,6 +28,23 @@ module _ {s : List ℕ} {i x : ℕ} (p : ℕ → Bool) where
 
   pub tells-sub : x ≡ headAt s i .sub → Tells s i (λ t. p (t .head .sub)) (p x)
   tells-sub e = tells-head (λ (h : Head). p (h .sub)) (ap p e)
+
+  pub tells-kind : x ≡ headAt s i .kind → Tells s i (λ t. p (t .head .kind)) (p x)
+  tells-kind e = tells-head (λ (h : Head). p (h .kind)) (ap p e)
+
+  pub tells-text : x ≡ headAt s i .text → Tells s i (λ t. p (t .head .text)) (p x)
+  tells-text e = tells-head (λ (h : Head). p (h .text)) (ap p e)
+
+-- A test put otherwise, its opposite, and one that does not read the tree.
+module _ {s : List ℕ} {i : ℕ} where
+  pub tells-same : {p : Tree → Bool} (q : Tree → Bool) → ((t : Tree) → p t ≡ q t) → {r : Bool} → Tells s i p r → Tells s i q r
+  tells-same q e w = record { by = λ t n. w .by t n ∙ e t }
+
+  pub tells-not : {p : Tree → Bool} {r : Bool} → Tells s i p r → Tells s i (λ t. not (p t)) (not r)
+  tells-not w = record { by = λ t n. ap not (w .by t n) }
+
+  pub tells-always : (b : Bool) → Tells s i (λ t. b) b
+  tells-always b = record { by = λ t n. refl }
 
 -- Tests joined, the second one made only where the first leaves the answer open.
 module _ {s : List ℕ} {i : ℕ} {p : Tree → Bool} {a : Bool} (first : Tells s i p a) (q : Tree → Bool) where

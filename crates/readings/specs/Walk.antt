@@ -1,11 +1,11 @@
 -- A node that stands at record i, its children, and the walk over a list of them, sibling by sibling.
-use mathlib.Core.Path.{_≡_, refl, sym, ap, _∙_}
+use mathlib.Core.Path.{_≡_, refl, sym, ap, subst, _∙_}
 use mathlib.Core.Bool.{Bool, true, false, _||_}
 use mathlib.Core.List.{List}
 use Prim.Native.Nat.{ℕ, suc, _+_, _-_, _<_, _≤_}
 use native.Mathlib.Omega.{arith}
 use lib.ListN.{length}
-use Rattle.tree.specs.Tree.{Head, Forest, nil, node, Tree, trees, records}
+use Rattle.tree.specs.Tree.{Head, Forest, nil, node, Tree, trees, forest, trees-forest, records, size}
 use Rattle.tree.specs.Fields.{start, subtreeAt}
 use Rattle.tree.specs.Walk.{Holds, Held, first-of, held-within, held-after}
 use Rattle.rules.specs.Lists.{any}
@@ -46,6 +46,30 @@ module _ {s : List ℕ} {p size : ℕ} where
       go : (f : Forest) → Holds s p size f → SomeNode s p
       go nil d = absurd (omega (arith, d .sized))
       go (node h cs rest) d = record { tree = record { head = h; kids = cs }; node = first-node h cs rest d (g .inside) }
+
+-- What f picks of the tree at record i, its last children, stands from record r on, to where the tree ends.
+pub record ListAt (s : List ℕ) (i : ℕ) (f : Tree → List Tree) (r : ℕ) : Type 0 where
+  pub within : (t : Tree) → Node s i t → r ≤ i + size t
+  pub holds : (t : Tree) → Node s i t → Holds s r (i + size t - r) (forest (f t))
+
+pub forest-trees : (f : Forest) → forest (trees f) ≡ f
+forest-trees nil = refl
+forest-trees (node h cs rest) = ap (node h cs) (forest-trees rest)
+
+pub list-same : {s : List ℕ} {i r : ℕ} (f : Tree → List Tree) {g : Tree → List Tree} → ((t : Tree) → Node s i t → f t ≡ g t) → ListAt s i g r → ListAt s i f r
+list-same {s} {i} {r} f e w = record {
+  within = w .within;
+  holds = λ t n. subst (λ (l : List Tree). Holds s r (i + size t - r) (forest l)) (sym (e t n)) (w .holds t n);
+}
+
+pub children-at : {s : List ℕ} {i : ℕ} → ListAt s i (λ t. trees (t .kids)) (i + 1)
+children-at {s} {i} = record {
+  within = λ t n. omega arith;
+  holds = λ t n.
+      let m : subtreeAt s i ≡ size t = n .stands .2 in
+      let y : subtreeAt s i - 1 ≡ i + size t - (i + 1) = omega arith in
+      rw (forest-trees (t .kids)) (rw y at (node-children t n));
+}
 
 -- r says whether q holds of any tree of the list that stands there.
 pub record AnyIn (s : List ℕ) (at size : ℕ) (q : Tree → Bool) (r : Bool) : Type 0 where
@@ -91,3 +115,19 @@ module _ {s : List ℕ} {i p e : ℕ} {whole q : Tree → Bool} (w : AnyWalked s
             let t : Tree = record { head = h; kids = cs } in
             n .by rest (first-of h cs rest d .after)
             ∙ sym (ap (λ (a : Bool). a || any q (trees rest)) (sym (this .by t (first-node h cs rest d (w .held .inside))) ∙ x))
+
+-- The walk from where a list stands.
+pub list-start : {s : List ℕ} {i p z : ℕ} {f : Tree → List Tree} → SomeNode s i → ListAt s i f p → z ≡ subtreeAt s i → (q : Tree → Bool)
+    → AnyWalked s i p (i + z) (λ t. any q (f t)) q
+list-start {s} {i} {p} {z} {f} n w e q = record {
+  inside = omega (arith, w .within (n .tree) (n .node), n .node .stands .2);
+  held = record {
+    forest = forest (f (n .tree));
+    holds = holds (n .tree) (n .node);
+    inside = omega (arith, w .within (n .tree) (n .node), n .node .stands .2, n .node .inside);
+  };
+  tells = λ r a. record { by = λ t d. a .by (forest (f t)) (holds t d) ∙ ap (any q) (trees-forest (f t)) };
+}
+  where
+    holds : (t : Tree) → Node s i t → Holds s p (i + z - p) (forest (f t))
+    holds t d = let m : i + size t - p ≡ i + z - p = omega (arith, d .stands .2) in rw m at (w .holds t d)

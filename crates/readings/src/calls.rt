@@ -1,11 +1,11 @@
-// The argument of a typeof, the callee of a call, and whether a call or a new is pure.
+// The argument of a typeof, the callee of a call, whether a call or a new is pure, and whether an impure call stays.
 use fields::kind;
 ghost use Prim.Native.Nat.{_+_, _≤_};
 ghost use lib.ListN.{length};
 ghost use Rattle.tree.specs.Fields.{start};
-ghost use Rattle.rules.specs.Handler.{isKind, firstIs};
-ghost use Rattle.rules.specs.Facts.{ofIdentifier, pureNew, pureCall};
-ghost use Rattle.readings.specs.Node.{SomeNode, Tells};
+ghost use Rattle.rules.specs.Handler.{isKind, isFunction, firstIs};
+ghost use Rattle.rules.specs.Facts.{ofIdentifier, pureNew, pureCall, hasSideEffectsOrPreservedIife};
+ghost use Rattle.readings.specs.Node.{SomeNode, Tells, settingsWith};
 
 // Whether the argument of a unary, or the callee of a call or new, has this kind.
 pub fn first_is(src: &[u8], i: usize, kind: usize) -> bool
@@ -27,7 +27,7 @@ pub fn of_identifier(src: &[u8], i: usize) -> bool
 
 pub fn pure_new(src: &[u8], i: usize, settings: u8) -> bool
     requires { ⌜ start (i + 1) ≤ length (now src) ⌝ }
-    ensures { λ r. ⌜ Tells (now (src .entry)) i (pureNew (record { byte = settings })) r ⌝ }
+    ensures { λ r. ⌜ Tells (now (src .entry)) i (pureNew (settingsWith settings)) r ⌝ }
 {
     let facts = fields::facts_at(src, i);
     if facts / 64 % 2 == 1 {
@@ -41,13 +41,37 @@ pub fn pure_new(src: &[u8], i: usize, settings: u8) -> bool
 
 pub fn pure_call(src: &[u8], i: usize, settings: u8) -> bool
     requires { ⌜ SomeNode (now src) i ⌝ }
-    ensures { λ r. ⌜ Tells (now (src .entry)) i (pureCall (record { byte = settings })) r ⌝ }
+    ensures { λ r. ⌜ Tells (now (src .entry)) i (pureCall (settingsWith settings)) r ⌝ }
 {
     if pure_new(src, i, settings) {
         return true;
     }
     if first_is(src, i, kind::IDENTIFIER) {
         return fields::facts_at(src, i) / 128 % 2 == 1;
+    }
+    false
+}
+
+// Whether the callee is a function or arrow.
+fn first_is_function(src: &[u8], i: usize) -> bool
+    requires { ⌜ SomeNode (now src) i ⌝ }
+    ensures { λ r. ⌜ Tells (now (src .entry)) i (firstIs isFunction) r ⌝ }
+{
+    if first_is(src, i, kind::FUNCTION) {
+        return true;
+    }
+    first_is(src, i, kind::ARROW)
+}
+
+pub fn has_side_effects_or_preserved_iife(src: &[u8], i: usize, settings: u8) -> bool
+    requires { ⌜ SomeNode (now src) i ⌝ }
+    ensures { λ r. ⌜ Tells (now (src .entry)) i (hasSideEffectsOrPreservedIife (settingsWith settings)) r ⌝ }
+{
+    if crate::facts::flagged_at(src, i) {
+        return true;
+    }
+    if settings / 2 % 2 == 1 {
+        return first_is_function(src, i);
     }
     false
 }

@@ -1,12 +1,13 @@
-// A class by its parts: what makes it an effect, and what its elements say.
+// A class by its parts: what makes it an effect, what keeps it, and what its elements say.
 ghost use Prim.Native.Nat.{_+_, _≤_};
 ghost use lib.ListN.{length};
 ghost use Rattle.tree.specs.Fields.{start};
 ghost use Rattle.rules.specs.Lists.{any};
-ghost use Rattle.rules.specs.Class.{decoratedClass, hasStaticValue, nonemptyStaticBlock, decoratedElement, elements, arrowHeritage};
+ghost use Rattle.rules.specs.Class.{decoratedClass, hasStaticValue, nonemptyStaticBlock, decoratedElement, indexSignature, flaggedStaticValue, elements, arrowHeritage, keptClass};
 ghost use Rattle.rules.specs.Effects.{classIsEffect};
 ghost use Rattle.readings.specs.Node.{SomeNode, Tells};
-ghost use Rattle.readings.specs.Class.{hasHeritage, ElementsAt};
+ghost use Rattle.readings.specs.Walk.{ListAt};
+ghost use Rattle.readings.specs.Class.{hasHeritage, keepsClass};
 
 pub fn decorated_class_at(src: &[u8], i: usize) -> bool
     requires { ⌜ start (i + 1) ≤ length (now src) ⌝ }
@@ -44,6 +45,40 @@ fn decorated_element_at(src: &[u8], i: usize) -> bool
     fields::sub_at(src, i) / 32 % 2 == 1
 }
 
+fn index_signature_at(src: &[u8], i: usize) -> bool
+    requires { ⌜ start (i + 1) ≤ length (now src) ⌝ }
+    ensures { λ r. ⌜ Tells (now (src .entry)) i indexSignature r ⌝ }
+{
+    fields::sub_at(src, i) % 8 == 5
+}
+
+fn flagged_static_value_at(src: &[u8], i: usize) -> bool
+    requires { ⌜ SomeNode (now src) i ⌝ }
+    ensures { λ r. ⌜ Tells (now (src .entry)) i flaggedStaticValue r ⌝ }
+{
+    if has_static_value_at(src, i) {
+        return crate::lists::flagged_after(src, i, fields::sub_at(src, i) / 16 % 2);
+    }
+    false
+}
+
+// Whether an element keeps its class.
+fn keeps_class_at(src: &[u8], i: usize) -> bool
+    requires { ⌜ SomeNode (now src) i ⌝ }
+    ensures { λ r. ⌜ Tells (now (src .entry)) i keepsClass r ⌝ }
+{
+    if decorated_element_at(src, i) {
+        return true;
+    }
+    if index_signature_at(src, i) {
+        return true;
+    }
+    if nonempty_static_block_at(src, i) {
+        return true;
+    }
+    flagged_static_value_at(src, i)
+}
+
 pub fn has_heritage(src: &[u8], i: usize) -> bool
     requires { ⌜ SomeNode (now src) i ⌝ }
     ensures { λ r. ⌜ Tells (now (src .entry)) i hasHeritage r ⌝ }
@@ -57,12 +92,9 @@ pub fn has_heritage(src: &[u8], i: usize) -> bool
 // The record where the elements of the class at record i start.
 pub fn elements_at(src: &[u8], i: usize) -> usize
     requires { ⌜ SomeNode (now src) i ⌝ }
-    ensures { λ r. ⌜ ElementsAt (now (src .entry)) i r ⌝ }
+    ensures { λ r. ⌜ ListAt (now (src .entry)) i elements r ⌝ }
 {
-    if has_heritage(src, i) {
-        return i + 1 + fields::subtree_at(src, i + 1);
-    }
-    i + 1
+    crate::lists::children_after(src, i, fields::sub_at(src, i) / 2 % 2)
 }
 
 pub fn decorated_elements(src: &[u8], i: usize) -> bool
@@ -100,6 +132,35 @@ pub fn class_is_effect(src: &[u8], i: usize) -> bool
         return true;
     }
     if decorated_elements(src, i) {
+        return true;
+    }
+    arrow_heritage(src, i)
+}
+
+fn elements_keep_class(src: &[u8], i: usize) -> bool
+    requires { ⌜ SomeNode (now src) i ⌝ }
+    ensures { λ r. ⌜ Tells (now (src .entry)) i (λ t. any keepsClass (elements t)) r ⌝ }
+{
+    let end = i + fields::subtree_at(src, i);
+    let mut p = elements_at(src, i);
+    while p < end {
+        if keeps_class_at(src, p) {
+            return true;
+        }
+        p += fields::subtree_at(src, p);
+    }
+    false
+}
+
+// Whether the class is kept.
+pub fn classify_class_removability(src: &[u8], i: usize) -> bool
+    requires { ⌜ SomeNode (now src) i ⌝ }
+    ensures { λ r. ⌜ Tells (now (src .entry)) i keptClass r ⌝ }
+{
+    if decorated_class_at(src, i) {
+        return true;
+    }
+    if elements_keep_class(src, i) {
         return true;
     }
     arrow_heritage(src, i)

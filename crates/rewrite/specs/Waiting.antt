@@ -18,10 +18,36 @@ use Rattle.output.specs.Bytes.{Agree, Kept, Recorded, agree-all, agree-less}
 use Rattle.output.specs.Trees.{Spans, Wrote, CopiedTree, wrote-none, wrote-as, spans-agree, spans-append, recorded-node}
 use Rattle.rewrite.specs.Made.{GivenMade, Makes}
 
--- The trees w wait: none, and next is slot; or they stand behind record slot, to record next.
-abbrev pub Waits : List ℕ → ℕ → ℕ → List Tree → Type 0
-Waits out slot next [] = next ≡ slot
-Waits out slot next (t ∷ w) = Spans out (slot + 1) next (t ∷ w)
+-- The records that trees which wait take with the free one before them: none if none wait.
+abbrev pub heldRecords : List Tree → ℕ
+heldRecords [] = 0
+heldRecords (t ∷ w) = suc (records (forest (t ∷ w)))
+
+-- The trees w wait behind record slot, up to record next, which is slot if there are none.
+pub record Waits (out : List ℕ) (slot next : ℕ) (w : List Tree) : Type 0 where
+  pub stands : Stands out (slot + 1) (forest w)
+  pub ends : next ≡ slot + heldRecords w
+
+waits-spans : {out : List ℕ} {slot next : ℕ} {t : Tree} {w : List Tree} → Waits out slot next (t ∷ w) → Spans out (slot + 1) next (t ∷ w)
+waits-spans x = record { stands = x .stands; ends = omega (arith, x .ends) }
+
+spans-waits : {out : List ℕ} {slot next : ℕ} (w : List Tree) (t : Tree) → Spans out (slot + 1) next (w ++ (t ∷ [])) → Waits out slot next (w ++ (t ∷ []))
+spans-waits [] t d = record { stands = d .stands; ends = omega (arith, d .ends) }
+spans-waits (u ∷ w) t d = record { stands = d .stands; ends = omega (arith, d .ends) }
+
+pub waits-none : (out : List ℕ) (slot : ℕ) → Waits out slot slot []
+waits-none out slot = record { stands = tt; ends = omega arith }
+
+-- Where those that wait start, and what is written behind them leaves them.
+pub waits-after : {out : List ℕ} {slot next : ℕ} {w : List Tree} → Waits out slot next w → slot ≤ next
+waits-after x = omega (arith, x .ends)
+
+pub waits-agree : {old new : List ℕ} {slot next : ℕ} {w : List Tree} → Waits old slot next w → Agree old new (start next) → Waits new slot next w
+waits-agree {old} {new} {slot} {next} {w} x a = go w x
+  where
+    go : (w : List Tree) → Waits old slot next w → Waits new slot next w
+    go [] x = record { stands = tt; ends = x .ends }
+    go (t ∷ w) x = record { stands = spans-agree (waits-spans x) a (omega arith) .stands; ends = x .ends }
 
 pub record GivenWaiting (out : List ℕ) (slot next place : ℕ) : Type 0 where
   pub list : List Tree
@@ -52,7 +78,7 @@ hold-first {s} {at} {size} {old} {new} {slot} {next} {r} e c = record {
     frame = c .frame
 
     go : (t : Tree) → Stands s at (one t) → size ≡ suc (records (t .kids)) → (w : List Tree) → Waits old slot next w → Waits new slot r (w ++ (t ∷ []))
-    go t d z [] x = rw e (c .by t d z .spans)
+    go t d z [] x = spans-waits [] t (rw e (c .by t d z .spans))
     go t d z (y ∷ w) x = absurd (omega (arith, x .ends))
 
 pub hold-more : {s : List ℕ} {at size : ℕ} {old new : List ℕ} {slot next r : ℕ} → (slot ≡ next → ⊥) → CopiedTree s at size old new next r → Held s at size old new slot next r
@@ -63,30 +89,30 @@ hold-more {s} {at} {size} {old} {new} {slot} {next} {r} n c = record {
 }
   where
     go : (t : Tree) → Stands s at (one t) → size ≡ suc (records (t .kids)) → (w : List Tree) → Waits old slot next w → Waits new slot r (w ++ (t ∷ []))
-    go t d z [] x = absurd (n (sym x))
-    go t d z (y ∷ w) x = spans-append (y ∷ w) (t ∷ []) (spans-agree x (c .frame) (omega arith)) (c .by t d z .spans)
+    go t d z [] x = absurd (n (omega (arith, x .ends)))
+    go t d z (y ∷ w) x = spans-waits (y ∷ w) t (spans-append (y ∷ w) (t ∷ []) (spans-agree (waits-spans x) (c .frame) (omega arith)) (c .by t d z .spans))
 
 module _ (make : Place → List Tree → Tree) {old : List ℕ} {slot next place : ℕ} where
   pub flushed-none : next ≤ slot → Flushed make old old slot next place
   flushed-none l = record { by = λ w x. go w x; above = record { same = λ k h. refl } }
     where
       go : (w : List Tree) → Waits old slot next w → Wrote old old slot next (flush make place w)
-      go [] x = rw x (wrote-none (agree-all old (start slot)))
+      go [] x = let e : next ≡ slot = omega (arith, x .ends) in rw e (wrote-none (agree-all old (start slot)))
       go (t ∷ w) x = absurd (omega (arith, x .ends))
 
   pub waiting-given : GivenWaiting old slot next place → slot < next → GivenMade old slot next place
   waiting-given g l = go (g .list) (g .waits)
     where
       go : (w : List Tree) → Waits old slot next w → GivenMade old slot next place
-      go [] x = absurd (omega arith)
-      go (t ∷ w) x = record { list = t ∷ w; spans = x; inside = g .inside; small = g .small; place-small = g .place-small }
+      go [] x = absurd (omega (arith, x .ends))
+      go (t ∷ w) x = record { list = t ∷ w; spans = waits-spans x; inside = g .inside; small = g .small; place-small = g .place-small }
 
   pub flushed-made : slot < next → {new : List ℕ} → Makes make old new slot next place → Flushed make old new slot next place
   flushed-made l {new} m = record { by = λ w x. go w x; above = record { same = λ k h. m .above .same k (omega arith) } }
     where
       go : (w : List Tree) → Waits old slot next w → Wrote old new slot next (flush make place w)
-      go [] x = absurd (omega arith)
-      go (t ∷ w) x = m .by (t ∷ w) x
+      go [] x = absurd (omega (arith, x .ends))
+      go (t ∷ w) x = m .by (t ∷ w) (waits-spans x)
 
 -- A spread among arguments: its array, or nothing.
 pub record Wrapped (s : List ℕ) (at size : ℕ) (old new : List ℕ) (pos r : ℕ) : Type 0 where

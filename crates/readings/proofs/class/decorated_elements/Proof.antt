@@ -3,8 +3,7 @@ use native.Mathlib.Omega.{arith}
 use Rattle.rules.specs.Lists.{any}
 use Rattle.rules.specs.Class.{decoratedElement, elements}
 use Rattle.tree.specs.Walk.{held-some, held-within}
-use Rattle.readings.specs.Walk.{some-inside, some-end, AnyWalked, any-done, any-found, any-on}
-use Rattle.readings.specs.Class.{elements-start}
+use Rattle.readings.specs.Walk.{some-inside, some-end, AnyWalked, any-done, any-found, any-on, list-start}
 use Rattle.readings.proofs.class.decorated_elements.Statement.{statement}
 use Rattle.readings.proofs.class.decorated_elements.Tie as tie
 
@@ -24,7 +23,7 @@ elements-at-requires : tie.Need-elements-at-requires Inv-loop μ-loop
 elements-at-requires c κs = c .before .before .pre
 
 loop-holds : tie.Need-loop-holds Inv-loop μ-loop
-loop-holds c = elements-start (c .before .before .before .pre) (c .elements-at .ensures) (c .before .subtree-at .ensures .0) decoratedElement
+loop-holds c = list-start (c .before .before .before .pre) (c .elements-at .ensures) (c .before .subtree-at .ensures .0) decoratedElement
 
 decorated-element-at-requires : tie.Need-decorated-element-at-requires Inv-loop μ-loop
 decorated-element-at-requires c κs = omega (arith, c .before .loop .inv .held .inside)

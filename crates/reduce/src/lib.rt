@@ -1,0 +1,3 @@
+// Reduce: what is left of a tree file's expression.
+mod close;
+mod walk;
