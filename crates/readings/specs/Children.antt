@@ -7,14 +7,14 @@ use native.Mathlib.Omega.{arith}
 use lib.Dec.{eqb}
 use lib.ListN.{take, drop}
 use borrow.Author.Tests.{ne-eqb}
-use Rattle.tree.specs.Tree.{Forest, nil, node, Tree, trees, forest, count, size}
+use Rattle.tree.specs.Tree.{Forest, nil, node, Tree, trees, forest, count, size, forest-trees}
 use Rattle.tree.specs.Fields.{childrenAt, subtreeAt}
 use Rattle.tree.specs.Walk.{Holds, first-of}
 use Rattle.rules.specs.Lists.{isEmpty, any, every}
 use Rattle.rules.specs.Handler.{firstIs}
 use Rattle.readings.specs.Node.{SomeNode, Tells}
 use Rattle.readings.specs.Steps.{child-inside}
-use Rattle.readings.specs.Walk.{node-children, ListAt, forest-trees, list-same, children-at}
+use Rattle.readings.specs.Walk.{node-children, ListAt, list-same, children-at}
 use Rattle.readings.specs.First.{firstSize, GivenFirst}
 
 module _ {A : Type 0} where

@@ -8,3 +8,4 @@ pub mod Class
 pub mod Input
 pub mod Split
 pub mod Element
+pub mod Addition

@@ -5,7 +5,7 @@ use mathlib.Core.List.{List}
 use Prim.Native.Nat.{ℕ, suc, _+_, _-_, _<_, _≤_}
 use native.Mathlib.Omega.{arith}
 use lib.ListN.{length}
-use Rattle.tree.specs.Tree.{Head, Forest, nil, node, Tree, trees, forest, trees-forest, records, size}
+use Rattle.tree.specs.Tree.{Head, Forest, nil, node, Tree, trees, forest, trees-forest, records, size, forest-trees}
 use Rattle.tree.specs.Fields.{start, subtreeAt}
 use Rattle.tree.specs.Walk.{Holds, Held, first-of, held-within, held-after}
 use Rattle.rules.specs.Lists.{any}
@@ -51,10 +51,6 @@ module _ {s : List ℕ} {p size : ℕ} where
 pub record ListAt (s : List ℕ) (i : ℕ) (f : Tree → List Tree) (r : ℕ) : Type 0 where
   pub within : (t : Tree) → Node s i t → r ≤ i + size t
   pub holds : (t : Tree) → Node s i t → Holds s r (i + size t - r) (forest (f t))
-
-pub forest-trees : (f : Forest) → forest (trees f) ≡ f
-forest-trees nil = refl
-forest-trees (node h cs rest) = ap (node h cs) (forest-trees rest)
 
 pub list-same : {s : List ℕ} {i r : ℕ} (f : Tree → List Tree) {g : Tree → List Tree} → ((t : Tree) → Node s i t → f t ≡ g t) → ListAt s i g r → ListAt s i f r
 list-same {s} {i} {r} f e w = record {

@@ -22,7 +22,10 @@ use Rattle.handlers.specs.declared.outcome.Outcome.the-variants.{Removable, Unc
 use Rattle.handlers.specs.declared.outcome.Outcome.the-variants as outcomes
 use Rattle.output.specs.Bytes.{Agree, agree-all}
 use Rattle.output.specs.Trees.{Spans, Wrote, CopiedTree, wrote-none, wrote-as}
-use Rattle.rewrite.specs.Waiting.{Waits, waits-none}
+use Rattle.output.specs.Given as whole
+use Rattle.addition.specs.Fold.{Removes}
+use Rattle.class.specs.Class.{GivenClass, RemovesClass}
+use Rattle.rewrite.specs.Waiting.{waits-none}
 use Rattle.rewrite.specs.Becomes.{GivenList, Becomes, noneOneSeveralOf, arrayOf, joinKeptOf}
 use Rattle.reduce.specs.declared.walk.Part.{Part}
 use Rattle.reduce.specs.declared.walk.Part.the-variants.{InOrder, Argument, Template, Object}
@@ -52,6 +55,9 @@ module _ {s : List ℕ} {at size depth pos room : ℕ} (g : GivenTree s at size 
 
   pub outer-given : GivenChildren s (at + 1) (size - 1) (depth - 1) pos room
   outer-given = record { forest = g .tree .kids; input = kids-input (g .input); fits = omega (arith, g .fits, some-size (g .input)); small = omega (arith, g .small) }
+
+pub whole-given : {s : List ℕ} {at size depth pos room : ℕ} → GivenTree s at size depth pos room → whole.GivenTree s at size pos room
+whole-given {depth = depth} g = record { tree = g .tree; depth = depth; input = g .input; fits = omega (arith, g .fits, some-size (g .input)) }
 
 -- A list behind the free record at pos, and what it becomes.
 module _ {s : List ℕ} {at size depth : ℕ} {old mid : List ℕ} {pos next : ℕ} where
@@ -175,3 +181,16 @@ module _ {s : List ℕ} {at size depth : ℕ} {st : Settings} where
 
         pub arguments-done : {new : List ℕ} {r : ℕ} → Becomes noneOneSeveralOf s at mid new pos next r → ReducedTree s at size depth st old new pos r
         arguments-done b = record { by = λ t i. wrote-as (becomes-left noneOneSeveralOf b t i (foldArgumentsIntoNeededExpressions (map (reduced st) (drop 1 (trees (t .kids))))) (arguments-wrote a t i)) (sym (outcome-is Arguments h t i .is)) }
+
+  -- An addition, and a class: each has a rule of its own, which reduces no child.
+  pub addition-done : Handles s at st Addition → {old new : List ℕ} {pos r : ℕ} → Removes s at size old new pos r → ReducedTree s at size depth st old new pos r
+  addition-done h a = record { by = λ t i. wrote-as (a .by t depth i) (sym (outcome-is Addition h t i .is)) }
+
+  pub class-given : Handles s at st Class → {pos room : ℕ} → GivenTree s at size depth pos room → GivenClass s at size pos room
+  class-given h g = record {
+    given = whole-given g;
+    kind-is = ap (λ (x : Head). x .kind) (g .input .holds .stands .0) ∙ outcome-is Class h (g .tree) (g .input) .has .0;
+  }
+
+  pub class-done : Handles s at st Class → {old new : List ℕ} {pos r : ℕ} → RemovesClass s at size old new pos r → ReducedTree s at size depth st old new pos r
+  class-done h a = record { by = λ t i. wrote-as (a .by t depth i) (sym (outcome-is Class h t i .is)) }

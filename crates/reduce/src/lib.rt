@@ -1,3 +1,4 @@
 // Reduce: what is left of a tree file's expression.
 mod close;
+mod expression;
 mod walk;

@@ -7,7 +7,7 @@ use native.Mathlib.Omega.{arith}
 use lib.Dec.{eqb}
 use lib.ListN.{length}
 use borrow.Author.Tests.{eq-eqb, ne-eqb}
-use Rattle.tree.specs.Tree.{Head, Forest, nil, node, Tree, trees, forest, records}
+use Rattle.tree.specs.Tree.{Head, Forest, Tree, trees, forest, forest-trees, records}
 use Rattle.tree.specs.Fields.{start, headAt, subtreeAt}
 use Rattle.tree.specs.Stands.{Stands}
 use Rattle.rules.specs.Handler.{isKind, isSequence}
@@ -35,10 +35,6 @@ pub record GivenPair (out : List ℕ) (pos second end place : ℕ) : Type 0 wher
 
 pub record Joins (old new : List ℕ) (pos second end place r : ℕ) : Type 0 where
   pub by : (a b : Tree) → Pair old pos second end a b → Wrote old new pos r (joinSequence place a b ∷ [])
-
-forest-trees : (f : Forest) → forest (trees f) ≡ f
-forest-trees nil = refl
-forest-trees (node h cs rest) = ap (node h cs) (forest-trees rest)
 
 -- The children of a tree, standing behind its record, as a list.
 kids-span : {s : List ℕ} {p e : ℕ} (t : Tree) → Spans s p e (t ∷ []) → Spans s (p + 1) e (trees (t .kids))

@@ -8,6 +8,7 @@ pub use close::none_one_several;
 pub use close::remove_unused_array_expr;
 pub use close::remove_unused_sequence_expr;
 pub use join::join_kept;
+pub use made::make_sequence;
 pub use waiting::flush_object;
 pub use waiting::flush_template;
 pub use waiting::hold;

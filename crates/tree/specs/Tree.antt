@@ -38,6 +38,10 @@ pub trees-forest : (ts : List Tree) → trees (forest ts) ≡ ts
 trees-forest [] = refl
 trees-forest (t ∷ ts) = ap (t ∷_) (trees-forest ts)
 
+pub forest-trees : (f : Forest) → forest (trees f) ≡ f
+forest-trees nil = refl
+forest-trees (node h cs rest) = ap (node h cs) (forest-trees rest)
+
 -- A list of one tree.
 abbrev pub one : Tree → Forest
 one t = node (t .head) (t .kids) nil

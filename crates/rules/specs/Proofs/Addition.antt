@@ -61,15 +61,15 @@ isString-sides : (t l r : Tree) → Sides t l r → isString t ≡ (isString l |
 unfolding isString isStringRule
 isString-sides t l r S = recur-is isStringRule t ∙ rw (S .addition, S .kids)
 
-isString-stays : (t x y : Tree) → isAddition t ≡ true → isString (withChildren t (x ∷ y ∷ [])) ≡ (isString x || stringFact y)
+pub isString-stays : (t x y : Tree) → isAddition t ≡ true → isString (withChildren t (x ∷ y ∷ [])) ≡ (isString x || stringFact y)
 unfolding isString isStringRule withChildren isAddition isKind
 isString-stays t x y e = recur-made isStringRule (t .head) (x ∷ y ∷ []) ∙ rw e
 
-emptied-string : (x : Tree) → isString x ≡ true → isString (emptiedUnlessFlagged x) ≡ true
+pub emptied-string : (x : Tree) → isString x ≡ true → isString (emptiedUnlessFlagged x) ≡ true
 unfolding emptiedUnlessFlagged
 emptied-string x e = by-cond (λ y. isString y ≡ true) (flagged x) x (emptyLiteral (placeOf x)) (λ _. e) (λ _. empty-string (placeOf x))
 
-emptied-string-fact : (x : Tree) → stringFact x ≡ true → stringFact (emptiedUnlessFlagged x) ≡ true
+pub emptied-string-fact : (x : Tree) → stringFact x ≡ true → stringFact (emptiedUnlessFlagged x) ≡ true
 unfolding emptiedUnlessFlagged
 emptied-string-fact x e = by-cond (λ y. stringFact y ≡ true) (flagged x) x (emptyLiteral (placeOf x)) (λ _. e) (λ _. empty-string-fact (placeOf x))
 

@@ -1,0 +1,33 @@
+use borrow.Author.Needs.{needs}
+use Rattle.addition.specs.Fold.{fold-inside, literal-removed, other-stays}
+use Rattle.addition.proofs.remove_unused_addition.Statement.{statement}
+use Rattle.addition.proofs.remove_unused_addition.Tie as tie
+
+fold-string-addition-chain-requires : tie.Need-fold-string-addition-chain-requires
+fold-string-addition-chain-requires c κs = c .before .before .before .pre
+
+kind-at-requires : tie.Need-kind-at-requires
+kind-at-requires c κs = fold-inside (c .before .before .before .fold-string-addition-chain .ensures) (c .before .before .before .before .before .before .before .pre) (c .before .before .before .fold-string-addition-chain .kept .1 .1 .1 .0)
+
+same-length : tie.Need-same-length
+same-length c = search needs
+
+returns : tie.Need-returns
+returns c = literal-removed (c .before .before .before .before .before .fold-string-addition-chain .ensures) _ (c .before .kind-at .ensures .0) (c .if1 .taken)
+
+same-length-2 : tie.Need-same-length-2
+same-length-2 c = search needs
+
+returns-2 : tie.Need-returns-2
+returns-2 c = other-stays (c .before .before .before .before .before .fold-string-addition-chain .ensures) _ (c .before .kind-at .ensures .0) (c .if1 .left)
+
+pub remove-unused-addition-spec : {M : Type 1} → statement M
+remove-unused-addition-spec =
+    tie.close
+    (tie.spec
+    fold-string-addition-chain-requires
+    kind-at-requires
+    same-length
+    returns
+    same-length-2
+    returns-2)

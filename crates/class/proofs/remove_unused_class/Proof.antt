@@ -1,0 +1,75 @@
+use mathlib.Core.Path.{refl, _∙_}
+use native.Mathlib.Omega.{arith}
+use Rattle.class.specs.Class.{heritage-first, heritage-within, heritage-given, elements-given, none-left, sequence-given, some-left}
+use borrow.Author.Needs.{needs}
+use Rattle.class.proofs.remove_unused_class.Statement.{statement}
+use Rattle.class.proofs.remove_unused_class.Tie as tie
+
+sub-at-requires : tie.Need-sub-at-requires
+sub-at-requires c κs = search needs
+
+first-size-requires : tie.Need-first-size-requires
+first-size-requires c κs = heritage-first (c .before .before .before .pre .kind-is) _ _ (c .sub-at .ensures .0) refl (c .before .before .before .pre .given)
+
+add-first : tie.Need-add-first
+add-first c = search needs
+
+add-copy-if-flagged : tie.Need-add-copy-if-flagged
+add-copy-if-flagged c = search needs
+
+copy-if-flagged-requires : tie.Need-copy-if-flagged-requires
+copy-if-flagged-requires c κs = heritage-given (c .before .before .before .before .before .pre .kind-is) _ _ (c .before .before .sub-at .ensures .0) refl _ (c .before .first-size .ensures) (c .before .before .before .before .before .pre .given)
+
+add-extract-elements : tie.Need-add-extract-elements
+add-extract-elements c = search needs
+
+add-extract-elements-2 : tie.Need-add-extract-elements-2
+add-extract-elements-2 c = omega (arith, c .before .before .before .before .before .before .before .before .pre .given .input .inside, heritage-within (c .before .before .before .before .before .before .before .before .pre .kind-is) _ _ (c .before .before .before .before .before .sub-at .ensures .0) refl _ (c .before .before .before .before .first-size .ensures) (c .before .before .before .before .before .before .before .before .pre .given))
+
+sub-extract-elements : tie.Need-sub-extract-elements
+sub-extract-elements c = search needs
+
+sub-extract-elements-2 : tie.Need-sub-extract-elements-2
+sub-extract-elements-2 c = omega (arith, heritage-within (c .before .before .before .before .before .before .before .before .pre .kind-is) _ _ (c .before .before .before .before .before .sub-at .ensures .0) refl _ (c .before .before .before .before .first-size .ensures) (c .before .before .before .before .before .before .before .before .pre .given))
+
+extract-elements-requires : tie.Need-extract-elements-requires
+extract-elements-requires c κs = elements-given (c .before .before .before .before .before .before .before .before .before .pre .kind-is) _ _ (c .before .before .before .before .before .before .sub-at .ensures .0) refl _ (c .before .before .before .before .before .first-size .ensures) (c .before .before .before .before .before .before .before .before .before .pre .given) (c .before .before .before .copy-if-flagged .ensures) (c .before .before .before .copy-if-flagged .kept .1 .1 .1 .0)
+
+same-length : tie.Need-same-length
+same-length c = search needs
+
+returns : tie.Need-returns
+returns c = none-left (c .before .before .before .before .before .before .before .before .before .before .before .before .before .pre .kind-is) _ _ (c .before .before .before .before .before .before .before .before .before .before .sub-at .ensures .0) refl _ (c .before .before .before .before .before .before .before .before .before .first-size .ensures) _ (c .before .before .before .before .before .before .before .copy-if-flagged .ensures) (c .before .before .before .extract-elements .ensures) (c .if1 .taken)
+
+place-at-requires : tie.Need-place-at-requires
+place-at-requires c κs = search needs
+
+make-sequence-requires : tie.Need-make-sequence-requires
+make-sequence-requires c κs = sequence-given (c .before .before .before .before .before .before .before .before .before .before .before .before .before .before .before .pre .kind-is) _ _ (c .before .before .before .before .before .before .before .before .before .before .before .before .sub-at .ensures .0) refl _ (c .before .before .before .before .before .before .before .before .before .before .before .first-size .ensures) _ (c .before .before .before .before .before .before .before .before .before .copy-if-flagged .ensures) (c .before .before .before .before .before .extract-elements .ensures) (c .before .before .before .before .before .before .before .before .before .before .before .before .before .before .before .pre .given) (c .before .before .before .before .before .extract-elements .kept .1 .1 .1 .0 ∙ c .before .before .before .before .before .before .before .before .before .copy-if-flagged .kept .1 .1 .1 .0) _ (c .place-at .ensures .1)
+
+same-length-2 : tie.Need-same-length-2
+same-length-2 c = search needs
+
+returns-2 : tie.Need-returns-2
+returns-2 c = some-left (c .before .before .before .before .before .before .before .before .before .before .before .before .before .before .before .before .before .before .pre .kind-is) _ _ (c .before .before .before .before .before .before .before .before .before .before .before .before .before .before .before .sub-at .ensures .0) refl _ (c .before .before .before .before .before .before .before .before .before .before .before .before .before .before .first-size .ensures) _ (c .before .before .before .before .before .before .before .before .before .before .before .before .copy-if-flagged .ensures) (c .before .before .before .before .before .before .before .before .extract-elements .ensures) (c .before .before .before .before .before .if1 .left) _ (c .before .before .before .place-at .ensures .0) (c .before .before .make-sequence .ensures)
+
+pub remove-unused-class-spec : {M : Type 1} → statement M
+remove-unused-class-spec =
+    tie.close
+    (tie.spec
+    sub-at-requires
+    first-size-requires
+    add-first
+    add-copy-if-flagged
+    copy-if-flagged-requires
+    add-extract-elements
+    add-extract-elements-2
+    sub-extract-elements
+    sub-extract-elements-2
+    extract-elements-requires
+    same-length
+    returns
+    place-at-requires
+    make-sequence-requires
+    same-length-2
+    returns-2)

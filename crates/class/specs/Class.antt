@@ -1,0 +1,126 @@
+-- An extracted class: its flagged heritage, then what its elements give, made a sequence if there is any.
+use mathlib.Core.Path.{_≡_, refl, sym, ap, subst, _∙_}
+use mathlib.Core.Bool.{true}
+use mathlib.Core.List.{List, [], _∷_, _++_}
+use Prim.Native.Nat.{ℕ, _+_, _-_, _/_, _%_, _<_, _≤_}
+use native.Mathlib.Omega.{arith}
+use lib.Dec.{leb}
+use lib.ListN.{length}
+use borrow.Author.Tests.{leb-true}
+use Rattle.tree.specs.Tree.{Place, Head, Tree, trees, forest-trees, one, count, records}
+use Rattle.tree.specs.Fields.{start, headAt}
+use Rattle.tree.specs.Children.{childCountOk}
+use Rattle.tree.specs.Children as children
+use Rattle.tree.specs.Stands.{node-parts}
+use Rattle.tree.specs.Kind as kind
+use Rattle.rules.specs.Lists.{filter, concatMap}
+use Rattle.rules.specs.Facts.{flagged}
+use Rattle.rules.specs.Made.{placeOf, makeSequence}
+use Rattle.rules.specs.Class.{heritage, elements, extractedOfElement, extracted}
+use Rattle.rules.specs.Reduce.{sequenceIfAny}
+use Rattle.readings.specs.Input.{Input}
+use Rattle.readings.specs.First.{firstSize, GivenFirst}
+use Rattle.readings.specs.Split.{Split, split, given-first, first-node, some-size}
+use Rattle.output.specs.Bytes.{agree-less, agree-trans}
+use Rattle.output.specs.Trees.{Wrote, wrote-none, wrote-both, wrote-as}
+use Rattle.output.specs.Given.{GivenList, GivenTree}
+use Rattle.rewrite.specs.Made.{GivenMade, Makes}
+use Rattle.class.specs.Extract.{GivenAtMostOne, CopiesFlagged, ExtractsElements, elements-size, first-given, first-wrote, first-ends}
+
+pub record GivenClass (s : List ℕ) (at size pos room : ℕ) : Type 0 where
+  pub given : GivenTree s at size pos room
+  pub kind-is : headAt s at .kind ≡ kind.class
+
+pub record RemovesClass (s : List ℕ) (at size : ℕ) (old new : List ℕ) (pos r : ℕ) : Type 0 where
+  pub by : (t : Tree) (depth : ℕ) → Input s at size depth (one t) → Wrote old new pos r (sequenceIfAny (placeOf t) (extracted t))
+
+module _ {s : List ℕ} {at size : ℕ} (ek : headAt s at .kind ≡ kind.class) (u has : ℕ) (eu : u ≡ headAt s at .sub) (eh : has ≡ u / 2 % 2) where
+  heritage-has : (t : Tree) {depth : ℕ} → Input s at size depth (one t) → has ≡ children.heritage (t .head)
+  heritage-has t i = eh ∙ ap (λ (x : ℕ). x / 2 % 2) (eu ∙ ap (λ (h : Head). h .sub) (i .holds .stands .0))
+
+  heritage-count : (t : Tree) {depth : ℕ} → Input s at size depth (one t) → children.heritage (t .head) ≤ count (t .kids)
+  unfolding childCountOk
+  heritage-count t i =
+      let k : t .head .kind ≡ kind.class = sym (ap (λ (h : Head). h .kind) (i .holds .stands .0)) ∙ ek in
+      let c : leb (children.heritage (t .head)) (count (t .kids)) ≡ true = rw k at (node-parts (t .head) (t .kids) (first-node i) .counted) in
+      leb-true (children.heritage (t .head)) (count (t .kids)) c
+
+  pub heritage-first : {pos room : ℕ} → GivenTree s at size pos room → GivenFirst s at has
+  heritage-first g =
+      subst (λ (x : ℕ). GivenFirst s at x) (sym (heritage-has (g .tree) (g .input)))
+      (given-first (g .input) (children.heritage (g .tree .head)) (heritage-count (g .tree) (g .input)))
+
+  module _ (k : ℕ) (ez : k ≡ firstSize s at has) where
+    class-split : (t : Tree) {depth : ℕ} → Input s at size depth (one t) → Split s at size depth t (children.heritage (t .head)) k
+    class-split t {depth} i =
+        subst (λ (x : ℕ). Split s at size depth t (children.heritage (t .head)) x) (sym (ez ∙ ap (firstSize s at) (heritage-has t i)))
+        (split i (children.heritage (t .head)) (omega arith) (heritage-count t i))
+
+    module _ {pos room : ℕ} (g : GivenTree s at size pos room) where
+      abbrev d : Split s at size (g .depth) (g .tree) (children.heritage (g .tree .head)) k
+      d = class-split (g .tree) (g .input)
+
+      pub heritage-within : k < size
+      heritage-within = omega (arith, d .within, some-size (g .input))
+
+      pub heritage-given : GivenAtMostOne s (at + 1) k (pos + 1) room
+      heritage-given = first-given d (omega arith) (omega (arith, g .fits, heritage-within))
+
+      module _ {old mid : List ℕ} {next : ℕ} (c : CopiesFlagged s (at + 1) k old mid (pos + 1) next) where
+        heritage-ends : next ≤ pos + 1 + k
+        heritage-ends = first-ends d (omega arith) c
+
+        pub elements-given : length mid ≡ room → GivenList s (at + 1 + k) (size - 1 - k) next (length mid)
+        elements-given l = record { forest = d .rest; depth = g .depth - 1; input = d .rest-in; fits = omega (arith, g .fits, heritage-ends, heritage-within) }
+
+        module _ {mid′ : List ℕ} {next′ : ℕ} (x : ExtractsElements s (at + 1 + k) (size - 1 - k) mid mid′ next next′) where
+          elements-ends : next′ ≤ pos + size
+          elements-ends =
+              omega (
+                arith,
+                x .by (d .rest) (g .depth - 1) (d .rest-in) .spans .ends,
+                elements-size (trees (d .rest)),
+                ap records (forest-trees (d .rest)),
+                d .rest-in .holds .sized,
+                heritage-ends,
+                heritage-within,
+              )
+
+    module _ {old mid mid′ : List ℕ} (pos : ℕ) {next next′ : ℕ} (c : CopiesFlagged s (at + 1) k old mid (pos + 1) next)
+        (x : ExtractsElements s (at + 1 + k) (size - 1 - k) mid mid′ next next′) where
+      extracted-wrote : (t : Tree) {depth : ℕ} → Input s at size depth (one t) → Wrote old mid′ (pos + 1) next′ (extracted t)
+      unfolding extracted
+      extracted-wrote t {depth} i =
+          let d = class-split t i in
+          wrote-both (filter flagged (heritage t)) (concatMap extractedOfElement (elements t)) (first-wrote d (omega arith) c)
+          (wrote-as (x .by (d .rest) (depth - 1) (d .rest-in)) (ap (concatMap extractedOfElement) (d .rest-is)))
+
+      pub none-left : next′ ≡ pos + 1 → RemovesClass s at size old mid′ pos pos
+      none-left n = record { by = λ t depth i. go (placeOf t) (extracted t) (extracted-wrote t i) }
+        where
+          go : (p : Place) (ts : List Tree) → Wrote old mid′ (pos + 1) next′ ts → Wrote old mid′ pos pos (sequenceIfAny p ts)
+          go p [] w = wrote-none (agree-less (start pos) (omega arith) (w .frame))
+          go p (y ∷ ys) w = absurd (omega (arith, w .spans .ends))
+
+      pub sequence-given : {room : ℕ} → GivenTree s at size pos room → length mid′ ≡ room → (place : ℕ) → place < 4294967296 → GivenMade mid′ pos next′ place
+      sequence-given g l place p =
+          let w = extracted-wrote (g .tree) (g .input) in
+          let e = elements-ends g c x in
+          record {
+            list = extracted (g .tree);
+            spans = w .spans;
+            inside = omega (arith, g .fits);
+            small = omega (arith, g .input .small);
+            place-small = p;
+          }
+
+      pub some-left : (next′ ≡ pos + 1 → ⊥) → (place : ℕ) → place ≡ headAt s at .place → {new : List ℕ} → Makes makeSequence mid′ new pos next′ place → RemovesClass s at size old new pos next′
+      some-left n place ep {new} m = record {
+        by = λ t depth i. go (placeOf t) (ep ∙ ap (λ (h : Head). h .place) (i .holds .stands .0)) (extracted t) (extracted-wrote t i);
+      }
+        where
+          go : (p : Place) → place ≡ p → (ts : List Tree) → Wrote old mid′ (pos + 1) next′ ts → Wrote old new pos next′ (sequenceIfAny p ts)
+          go p e [] w = absurd (n (omega (arith, w .spans .ends)))
+          go p e (y ∷ ys) w =
+              let v = (rw e at m) .by (y ∷ ys) (w .spans) in
+              record { spans = v .spans; frame = agree-trans (agree-less (start pos) (omega arith) (w .frame)) (v .frame) (omega arith) }
