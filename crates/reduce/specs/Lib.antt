@@ -6,3 +6,6 @@ pub mod Given
 pub mod Children
 pub mod Child
 pub mod Expression
+pub mod Header
+pub mod Answer
+pub mod Run

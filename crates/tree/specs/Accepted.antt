@@ -161,7 +161,7 @@ pub mark-long : (s : List ℕ) → markOk s ≡ true → 8 ≤ length s
 mark-long s w = marked-parts s w .long
 
 -- A file's first eight bytes are its header.
-header-is : (s : List ℕ) → Bytes s → markOk s ≡ true → versionOk s ≡ true → s ≡ header (settingsOf s) (countOf s) (drop 8 s)
+pub header-is : (s : List ℕ) → Bytes s → markOk s ≡ true → versionOk s ≡ true → s ≡ header (settingsOf s) (countOf s) (drop 8 s)
 unfolding versionOk
 header-is s bs w v =
     let m = marked-parts s w in
