@@ -84,7 +84,7 @@ module _ (s : List ℕ) (bs : Bytes s) (e : refusal reduceLimits s ≡ 0) where
   }
 
 -- No number: no refusal of the file.
-unnumbered : (s : List ℕ) (room : ℕ) → number s room ≡ 0 → refusal reduceLimits s ≡ 0
+pub unnumbered : (s : List ℕ) (room : ℕ) → number s room ≡ 0 → refusal reduceLimits s ≡ 0
 unfolding number
 unnumbered s room z = go (refusal reduceLimits s) (ltb room (8 + 16 * (2 * countOf s - 1))) z
   where

@@ -1,12 +1,26 @@
 // The C functions. include/uxt.h declares them.
 use derived::Answer;
 use effects::Listed;
+use reduce::Reduced;
 ghost use mathlib.Core.Path.{_≡_};
 ghost use Rattle.derived.specs.Answer.{derivedQuestion};
-ghost use Rattle.uxt.specs.Packed.{plain, PackedListing};
+ghost use Rattle.uxt.specs.Packed.{plain, PackedListing, PackedReduction};
 
 // A refusal's number stands above the 32 bits of a value.
 const NUMBER: u64 = 4294967296;
+
+// Reduces the tree file src into out: the value is the length of the rewritten file, 0 where nothing is left.
+#[no_mangle]
+pub extern "C" fn uxt_reduce(src: &[u8], out: &mut [u8]) -> u64
+    ensures { λ r. ⌜ PackedReduction (now (src .entry)) (now (out .entry)) (now (out .exit)) r ⌝ }
+{
+    let reduced = reduce::reduce(src, out);
+    match reduced {
+        Reduced::Refused(number) => number as u64 * NUMBER,
+        Reduced::Removable => 0,
+        Reduced::Kept(length) => length as u64,
+    }
+}
 
 // Lists the effects of the tree file src in entries: the value is their count.
 #[no_mangle]
