@@ -1,13 +1,13 @@
 -- The fold of a chain of additions, and what is left of an addition.
-use mathlib.Core.Path.{_≡_, refl, sym, ap, subst, _∙_}
+use mathlib.Core.Path.{_≡_, refl, sym, ap, _∙_}
 use mathlib.Core.Bool.{Bool, true, false, cond, not, _||_}
 use mathlib.Core.List.{List, [], _∷_}
-use Prim.Native.Nat.{ℕ, suc, _+_, _-_, _<_, _≤_}
+use Prim.Native.Nat.{ℕ, _+_, _-_, _<_, _≤_}
 use native.Mathlib.Omega.{arith}
 use lib.Dec.{eqb}
 use lib.ListN.{length}
 use borrow.Author.Tests.{eq-eqb, ne-eqb}
-use Rattle.tree.specs.Tree.{Head, Tree, trees, forest, one, records, size, recur-is, forest-trees}
+use Rattle.tree.specs.Tree.{Head, Tree, forest, one, records, size, recur-is, forest-trees}
 use Rattle.tree.specs.Fields.{start, headAt, subtreeAt}
 use Rattle.tree.specs.Kind as kind
 use Rattle.rules.specs.Lists.{keepIf}
@@ -17,13 +17,13 @@ use Rattle.rules.specs.Made.{withChildren}
 use Rattle.rules.specs.Addition.{emptiedUnlessFlagged, isDroppedRight, foldSides, foldRule, foldStringAdditionChain}
 use Rattle.rules.specs.Proofs.Lists.{by-cond}
 use Rattle.rules.specs.Proofs.Addition.{Sides, NoSides, by-chain, fold-sides, isString-stays, emptied-string, emptied-string-fact}
-use Rattle.readings.specs.Node.{Node, Tells}
+use Rattle.readings.specs.Node.{Tells}
 use Rattle.readings.specs.Input.{Input, input-node}
 use Rattle.readings.specs.Split.{some-size}
 use Rattle.readings.specs.Addition.{SidesAt, sides-at}
-use Rattle.output.specs.Trees.{Wrote, CopiedTree, wrote-none, wrote-as}
+use Rattle.output.specs.Trees.{Wrote, CopiedTree, wrote-none, wrote-over, wrote-as}
 use Rattle.output.specs.Given.{GivenTree, copied-wrote}
-use Rattle.addition.specs.Sides.{foldedRight, GivenSides, SidesFolded, wrote-over, emptied-size, right-size}
+use Rattle.addition.specs.Sides.{foldedRight, GivenSides, SidesFolded, emptied-size, right-size}
 
 -- The fold is written from record pos to record next, and `string` says whether it is a string.
 pub record Folds (s : List ℕ) (at size : ℕ) (old new : List ℕ) (pos next : ℕ) (string : Bool) : Type 0 where
@@ -31,7 +31,7 @@ pub record Folds (s : List ℕ) (at size : ℕ) (old new : List ℕ) (pos next :
   pub is : (t : Tree) (depth : ℕ) → Input s at size depth (one t) → string ≡ isString (foldStringAdditionChain t)
 
 -- "then removable exactly if a string literal remains"
-pub record Removes (s : List ℕ) (at size : ℕ) (old new : List ℕ) (pos next : ℕ) : Type 0 where
+pub record RemovesAddition (s : List ℕ) (at size : ℕ) (old new : List ℕ) (pos next : ℕ) : Type 0 where
   pub by : (t : Tree) (depth : ℕ) → Input s at size depth (one t)
       → Wrote old new pos next (keepIf (not (isLiteral (foldStringAdditionChain t))) (foldStringAdditionChain t))
 
@@ -159,17 +159,13 @@ module _ {s : List ℕ} {at : ℕ} (size : ℕ) (b : Bool) (p : Tells s at isAdd
     }
 
 -- What is left of an addition, by the kind k that the fold's record says.
-module _ {s : List ℕ} {at size : ℕ} {old new : List ℕ} {pos next : ℕ} {string : Bool} (f : Folds s at size old new pos next string) where
-  pub fold-inside : {room : ℕ} → GivenTree s at size pos room → length new ≡ room → start (pos + 1) ≤ length new
-  fold-inside g l = omega (arith, g .fits, some-size (g .input))
+module _ {s : List ℕ} {at size : ℕ} {old new : List ℕ} {pos next : ℕ} {string : Bool} (f : Folds s at size old new pos next string) (k : ℕ) (e : k ≡ headAt new pos .kind) where
+  literal-is : (t : Tree) (depth : ℕ) → Input s at size depth (one t) → isLiteral (foldStringAdditionChain t) ≡ eqb k kind.literal
+  unfolding isKind
+  literal-is t depth i = sym (ap (λ (x : ℕ). eqb x kind.literal) (e ∙ ap (λ (h : Head). h .kind) (f .by t depth i .spans .stands .0)))
 
-  module _ (k : ℕ) (e : k ≡ headAt new pos .kind) where
-    literal-is : (t : Tree) (depth : ℕ) → Input s at size depth (one t) → isLiteral (foldStringAdditionChain t) ≡ eqb k kind.literal
-    unfolding isKind
-    literal-is t depth i = sym (ap (λ (x : ℕ). eqb x kind.literal) (e ∙ ap (λ (h : Head). h .kind) (f .by t depth i .spans .stands .0)))
+  pub literal-removed : k ≡ kind.literal → RemovesAddition s at size old new pos pos
+  literal-removed x = record { by = λ t depth i. wrote-as (wrote-none (f .by t depth i .frame)) (rw (literal-is t depth i ∙ eq-eqb k kind.literal x)) }
 
-    pub literal-removed : k ≡ kind.literal → Removes s at size old new pos pos
-    literal-removed x = record { by = λ t depth i. wrote-as (wrote-none (f .by t depth i .frame)) (rw (literal-is t depth i ∙ eq-eqb k kind.literal x)) }
-
-    pub other-stays : (k ≡ kind.literal → ⊥) → Removes s at size old new pos next
-    other-stays x = record { by = λ t depth i. wrote-as (f .by t depth i) (rw (literal-is t depth i ∙ ne-eqb k kind.literal x)) }
+  pub other-stays : (k ≡ kind.literal → ⊥) → RemovesAddition s at size old new pos next
+  other-stays x = record { by = λ t depth i. wrote-as (f .by t depth i) (rw (literal-is t depth i ∙ ne-eqb k kind.literal x)) }

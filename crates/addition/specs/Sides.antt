@@ -1,8 +1,8 @@
 -- One addition, its left side folded already, as it is written.
 use mathlib.Core.Path.{_≡_, refl, sym, ap, _∙_}
-use mathlib.Core.Bool.{Bool, true, false, cond, not, _&&_}
+use mathlib.Core.Bool.{Bool, true, false, cond, not}
 use mathlib.Core.List.{List, [], _∷_}
-use Prim.Native.Nat.{ℕ, suc, _+_, _*_, _-_, _<_, _≤_}
+use Prim.Native.Nat.{ℕ, _+_, _*_, _-_, _<_, _≤_}
 use native.Mathlib.Omega.{arith}
 use lib.ListN.{length}
 use Rattle.tree.specs.Tree.{Head, Tree, forest, one, records, size}
@@ -12,11 +12,11 @@ use Rattle.rules.specs.Facts.{flagged, possibleSymbol, stringFact, isString}
 use Rattle.rules.specs.Made.{placeOf, madeHead, emptyLiteral, withChildren}
 use Rattle.rules.specs.Addition.{emptiedUnlessFlagged, isDroppedRight, foldSides}
 use Rattle.rules.specs.Proofs.Lists.{by-cond}
-use Rattle.readings.specs.Node.{Node, Tells}
+use Rattle.readings.specs.Node.{Tells}
 use Rattle.readings.specs.Input.{Input, input-node}
-use Rattle.output.specs.Bytes.{Agree, Copied, Shifted, Recorded, agree-all, agree-less, agree-trans}
-use Rattle.output.specs.Trees.{Spans, Wrote, CopiedTree, spans-copied, wrote-both, wrote-as, recorded-node}
-use Rattle.output.specs.Lists as lists
+use Rattle.output.specs.Bytes.{Shifted, Recorded, agree-all, agree-less, agree-trans}
+use Rattle.output.specs.Trees.{Spans, Wrote, CopiedTree, spans-copied, wrote-both, wrote-over, wrote-as, recorded-node}
+use Rattle.output.specs.Lists.{first-node}
 use Rattle.output.specs.Given.{GivenTree, copied-wrote}
 
 -- One tree stands in the buffer from record `at` to record next.
@@ -25,11 +25,11 @@ pub record GivenOne (s : List ℕ) (at next : ℕ) : Type 0 where
   pub spans : Spans s at next (tree ∷ [])
   pub inside : start next ≤ length s
 
--- The tree that stood there gave way to the empty literal unless it is flagged.
+-- The tree that stood there became the empty literal, unless it is flagged.
 pub record Emptied (old new : List ℕ) (at next r : ℕ) : Type 0 where
   pub by : (t : Tree) → Spans old at next (t ∷ []) → Wrote old new at r (emptiedUnlessFlagged t ∷ [])
 
--- A right side beside a left side that is no string.
+-- "Otherwise a right side that is a string and unflagged becomes the empty literal."
 abbrev pub foldedRight : Tree → Tree
 foldedRight r = cond (stringFact r) (emptiedUnlessFlagged r) r
 
@@ -43,13 +43,10 @@ pub record GivenSides (s : List ℕ) (at right size : ℕ) (out : List ℕ) (pos
   pub right-given : GivenTree s right size next (length out)
   pub small : next + size < pos + 65536
 
+-- Whatever addition the head is of, and whatever its sides are, its fold was written from record pos to record r.
 pub record SidesFolded (s : List ℕ) (at right size : ℕ) (string : Bool) (old new : List ℕ) (pos next r : ℕ) : Type 0 where
   pub by : (t x y : Tree) (depth : ℕ) → headAt s at ≡ t .head → string ≡ isString x → Spans old (pos + 1) next (x ∷ [])
       → Input s right size depth (one y) → Wrote old new pos r (foldSides t x y ∷ [])
-
--- What is written over a tree that was written from record p on.
-pub wrote-over : {old mid new : List ℕ} {p next pos end : ℕ} {a b : List Tree} → Wrote old mid p next a → pos ≤ p → Wrote mid new pos end b → Wrote old new pos end b
-wrote-over {pos = pos} x l y = record { spans = y .spans; frame = agree-trans (agree-less (start pos) (omega arith) (x .frame)) (y .frame) (omega arith) }
 
 pub emptied-size : (x : Tree) → size (emptiedUnlessFlagged x) ≤ size x
 unfolding emptiedUnlessFlagged emptyLiteral
@@ -61,7 +58,7 @@ module _ {old : List ℕ} {at next : ℕ} (g : GivenOne old at next) where
 
   module _ (b : Bool) (p : Tells old at flagged b) where
     flag-is : (t : Tree) → Spans old at next (t ∷ []) → b ≡ flagged t
-    flag-is t d = p .by t (lists.first-node t [] d (g .inside))
+    flag-is t d = p .by t (first-node t [] d (g .inside))
 
     pub flagged-stays : b ≡ true → Emptied old old at next next
     unfolding emptiedUnlessFlagged

@@ -7,7 +7,7 @@ ghost use Rattle.rules.specs.Addition.{isDroppedRight};
 ghost use Rattle.readings.specs.Node.{Tells};
 ghost use Rattle.output.specs.Given.{GivenTree};
 ghost use Rattle.addition.specs.Sides.{GivenOne, Emptied, RightFolded, GivenSides, SidesFolded};
-ghost use Rattle.addition.specs.Fold.{Folds, Removes};
+ghost use Rattle.addition.specs.Fold.{Folds, RemovesAddition};
 
 // Where a folded side ends, and whether it is a string.
 pub struct Folded {
@@ -51,8 +51,8 @@ fn fold_right(src: &[u8], at: usize, size: usize, out: &mut [u8], pos: usize) ->
     next
 }
 
-// The addition at record at, to record pos of out: its left side, folded already, stands behind that up to record next, and string
-// says whether it is one; its right side is the tree at record right, of size records.
+// The addition at record at, written from record pos of out on. Its left side stands behind that record up to record next, folded
+// already, and string says whether it is one; its right side is the tree at record right, of size records.
 fn fold_sides(
     src: &[u8],
     at: usize,
@@ -81,7 +81,7 @@ fn fold_sides(
     end
 }
 
-// The tree at record at, of size records, to out from record pos on. "The fold goes down left children only."
+// The tree at record at, of size records, written to out from record pos on. "The fold goes down left children only."
 fn fold_string_addition_chain(
     src: &[u8],
     at: usize,
@@ -120,7 +120,7 @@ pub fn remove_unused_addition(
     pos: usize,
 ) -> usize
     requires { ⌜ GivenTree (now src) at size pos (length (now out)) ⌝ }
-    ensures { λ r. ⌜ Removes (now (src .entry)) at size (now (out .entry)) (now (out .exit)) pos r ⌝ }
+    ensures { λ r. ⌜ RemovesAddition (now (src .entry)) at size (now (out .entry)) (now (out .exit)) pos r ⌝ }
 {
     let folded = fold_string_addition_chain(src, at, size, out, pos);
     let next = folded.next;

@@ -1,17 +1,12 @@
 -- An extracted class: its flagged heritage, then what its elements give, made a sequence if there is any.
-use mathlib.Core.Path.{_≡_, refl, sym, ap, subst, _∙_}
-use mathlib.Core.Bool.{true}
-use mathlib.Core.List.{List, [], _∷_, _++_}
+use mathlib.Core.Path.{_≡_, ap, _∙_}
+use mathlib.Core.List.{List, [], _∷_}
 use Prim.Native.Nat.{ℕ, _+_, _-_, _/_, _%_, _<_, _≤_}
 use native.Mathlib.Omega.{arith}
-use lib.Dec.{leb}
 use lib.ListN.{length}
-use borrow.Author.Tests.{leb-true}
-use Rattle.tree.specs.Tree.{Place, Head, Tree, trees, forest-trees, one, count, records}
+use Rattle.tree.specs.Tree.{Place, Head, Tree, trees, forest, one, records, forest-trees}
 use Rattle.tree.specs.Fields.{start, headAt}
-use Rattle.tree.specs.Children.{childCountOk}
 use Rattle.tree.specs.Children as children
-use Rattle.tree.specs.Stands.{node-parts}
 use Rattle.tree.specs.Kind as kind
 use Rattle.rules.specs.Lists.{filter, concatMap}
 use Rattle.rules.specs.Facts.{flagged}
@@ -20,9 +15,10 @@ use Rattle.rules.specs.Class.{heritage, elements, extractedOfElement, extracted
 use Rattle.rules.specs.Reduce.{sequenceIfAny}
 use Rattle.readings.specs.Input.{Input}
 use Rattle.readings.specs.First.{firstSize, GivenFirst}
-use Rattle.readings.specs.Split.{Split, split, given-first, first-node, some-size}
-use Rattle.output.specs.Bytes.{agree-less, agree-trans}
-use Rattle.output.specs.Trees.{Wrote, wrote-none, wrote-both, wrote-as}
+use Rattle.readings.specs.Split.{Split, some-size}
+use Rattle.readings.specs.Heritage.{heritage-split, heritage-first}
+use Rattle.output.specs.Bytes.{agree-less}
+use Rattle.output.specs.Trees.{Wrote, wrote-none, wrote-both, wrote-over, wrote-as}
 use Rattle.output.specs.Given.{GivenList, GivenTree}
 use Rattle.rewrite.specs.Made.{GivenMade, Makes}
 use Rattle.class.specs.Extract.{GivenAtMostOne, CopiesFlagged, ExtractsElements, elements-size, first-given, first-wrote, first-ends}
@@ -31,30 +27,17 @@ pub record GivenClass (s : List ℕ) (at size pos room : ℕ) : Type 0 where
   pub given : GivenTree s at size pos room
   pub kind-is : headAt s at .kind ≡ kind.class
 
+-- "None: removable. One or more: always a sequence."
 pub record RemovesClass (s : List ℕ) (at size : ℕ) (old new : List ℕ) (pos r : ℕ) : Type 0 where
   pub by : (t : Tree) (depth : ℕ) → Input s at size depth (one t) → Wrote old new pos r (sequenceIfAny (placeOf t) (extracted t))
 
 module _ {s : List ℕ} {at size : ℕ} (ek : headAt s at .kind ≡ kind.class) (u has : ℕ) (eu : u ≡ headAt s at .sub) (eh : has ≡ u / 2 % 2) where
-  heritage-has : (t : Tree) {depth : ℕ} → Input s at size depth (one t) → has ≡ children.heritage (t .head)
-  heritage-has t i = eh ∙ ap (λ (x : ℕ). x / 2 % 2) (eu ∙ ap (λ (h : Head). h .sub) (i .holds .stands .0))
-
-  heritage-count : (t : Tree) {depth : ℕ} → Input s at size depth (one t) → children.heritage (t .head) ≤ count (t .kids)
-  unfolding childCountOk
-  heritage-count t i =
-      let k : t .head .kind ≡ kind.class = sym (ap (λ (h : Head). h .kind) (i .holds .stands .0)) ∙ ek in
-      let c : leb (children.heritage (t .head)) (count (t .kids)) ≡ true = rw k at (node-parts (t .head) (t .kids) (first-node i) .counted) in
-      leb-true (children.heritage (t .head)) (count (t .kids)) c
-
-  pub heritage-first : {pos room : ℕ} → GivenTree s at size pos room → GivenFirst s at has
-  heritage-first g =
-      subst (λ (x : ℕ). GivenFirst s at x) (sym (heritage-has (g .tree) (g .input)))
-      (given-first (g .input) (children.heritage (g .tree .head)) (heritage-count (g .tree) (g .input)))
+  pub class-first : {pos room : ℕ} → GivenTree s at size pos room → GivenFirst s at has
+  class-first g = heritage-first ek u has eu eh (g .tree) (g .input)
 
   module _ (k : ℕ) (ez : k ≡ firstSize s at has) where
     class-split : (t : Tree) {depth : ℕ} → Input s at size depth (one t) → Split s at size depth t (children.heritage (t .head)) k
-    class-split t {depth} i =
-        subst (λ (x : ℕ). Split s at size depth t (children.heritage (t .head)) x) (sym (ez ∙ ap (firstSize s at) (heritage-has t i)))
-        (split i (children.heritage (t .head)) (omega arith) (heritage-count t i))
+    class-split t i = heritage-split ek u has eu eh k ez t i
 
     module _ {pos room : ℕ} (g : GivenTree s at size pos room) where
       abbrev d : Split s at size (g .depth) (g .tree) (children.heritage (g .tree .head)) k
@@ -122,5 +105,4 @@ module _ {s : List ℕ} {at size : ℕ} (ek : headAt s at .kind ≡ kind.class) 
           go : (p : Place) → place ≡ p → (ts : List Tree) → Wrote old mid′ (pos + 1) next′ ts → Wrote old new pos next′ (sequenceIfAny p ts)
           go p e [] w = absurd (n (omega (arith, w .spans .ends)))
           go p e (y ∷ ys) w =
-              let v = (rw e at m) .by (y ∷ ys) (w .spans) in
-              record { spans = v .spans; frame = agree-trans (agree-less (start pos) (omega arith) (w .frame)) (v .frame) (omega arith) }
+              wrote-over w (omega arith) ((rw e at m) .by (y ∷ ys) (w .spans))

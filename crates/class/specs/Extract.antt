@@ -1,6 +1,6 @@
 -- What is extracted of a heritage, of a computed key and of elements, as it is written.
-use mathlib.Core.Path.{_≡_, refl, sym, ap, subst, _∙_}
-use mathlib.Core.Bool.{Bool, true, false, cond}
+use mathlib.Core.Path.{_≡_, refl, sym, ap, _∙_}
+use mathlib.Core.Bool.{Bool, true, false}
 use mathlib.Core.List.{List, [], _∷_, _++_, append-nil}
 use Prim.Native.Nat.{ℕ, zero, suc, _+_, _*_, _-_, _/_, _%_, _<_, _≤_}
 use native.Mathlib.Omega.{arith}
@@ -12,7 +12,7 @@ use Rattle.rules.specs.Lists.{keepIf, filter, concatMap}
 use Rattle.rules.specs.Facts.{flagged}
 use Rattle.rules.specs.Class.{hasStaticValue, computedKey, staticValue, extractedOfElement}
 use Rattle.rules.specs.Proofs.Lists.{by-cond}
-use Rattle.readings.specs.Node.{Node, Tells}
+use Rattle.readings.specs.Node.{Tells}
 use Rattle.readings.specs.Input.{Input, input-node}
 use Rattle.readings.specs.First.{firstSize, GivenFirst}
 use Rattle.readings.specs.Split.{Split, first-some, first-within, first-input, rest-input, some-size}

@@ -1,5 +1,5 @@
 -- A class: heritage, itself, all computed keys, then static values and blocks.
-use mathlib.Core.Path.{_≡_, refl, sym, ap, subst, _∙_}
+use mathlib.Core.Path.{_≡_, refl, sym, ap, _∙_}
 use mathlib.Core.Bool.{Bool}
 use mathlib.Core.List.{List, _++_}
 use Prim.Native.Nat.{ℕ, _+_, _-_, _/_, _%_, _≤_}
@@ -14,7 +14,8 @@ use Rattle.rules.specs.Class.{heritage, elements}
 use Rattle.rules.specs.Effects.{effects, effectsOf, itself, itselfIf, classIsEffect}
 use Rattle.readings.specs.Node.{Tells}
 use Rattle.tree.specs.Kind as kind
-use Rattle.readings.specs.Split.{first-node, Split, split, given-first}
+use Rattle.readings.specs.Split.{Split}
+use Rattle.readings.specs.Heritage.{heritage-split, heritage-first}
 use Rattle.effects.specs.Plan.{Planned, Plans, plan-class}
 use Rattle.effects.specs.declared.listing.Part.{Part}
 use Rattle.effects.specs.declared.listing.Part.the-variants.{InOrder, Key, Static}
@@ -30,25 +31,18 @@ pub record GivenClass (s : List ℕ) (at size depth : ℕ) (st : Settings) (pos 
   pub kind-is : headAt s at .kind ≡ kind.class
 
 pub class-planned : {s : List ℕ} {at size depth : ℕ} {st : Settings} {pos room : ℕ} → Plans s at st Class → GivenTree s at size depth st InOrder pos room → GivenClass s at size depth st pos room
-class-planned p g = record { given = g; kind-is = ap (λ (x : Head). x .kind) (g .input .holds .stands .0) ∙ plan-at Class p (g .tree) (g .input) .has .0 }
+class-planned p g = record { given = g; kind-is = ap (λ (x : Head). x .kind) (g .input .holds .stands .0) ∙ plan-at Class p (g .tree) (g .input) .has }
 
 module _ {s : List ℕ} {at size depth : ℕ} (st : Settings) (ek : headAt s at .kind ≡ kind.class) (u has : ℕ) (eu : u ≡ headAt s at .sub) (eh : has ≡ u / 2 % 2) where
   class-plan : (t : Tree) → Input s at size depth (one t) → Planned st t Class
-  class-plan t i = plan-class st t kind.class (sym (sym (ap (λ (x : Head). x .kind) (i .holds .stands .0)) ∙ ek)) (first-node i) refl
+  class-plan t i = plan-class st t kind.class (sym (sym (ap (λ (x : Head). x .kind) (i .holds .stands .0)) ∙ ek)) refl
 
-  heritage-has : (t : Tree) → Input s at size depth (one t) → has ≡ children.heritage (t .head)
-  heritage-has t i = eh ∙ ap (λ (x : ℕ). x / 2 % 2) (eu ∙ ap (λ (h : Head). h .sub) (i .holds .stands .0))
-
-  pub heritage-first : {pos room : ℕ} → GivenTree s at size depth st InOrder pos room → GivenFirst s at has
-  heritage-first g =
-      subst (λ (x : ℕ). GivenFirst s at x) (sym (heritage-has (g .tree) (g .input)))
-      (given-first (g .input) (children.heritage (g .tree .head)) (class-plan (g .tree) (g .input) .has .1))
+  pub class-first : {pos room : ℕ} → GivenTree s at size depth st InOrder pos room → GivenFirst s at has
+  class-first g = heritage-first ek u has eu eh (g .tree) (g .input)
 
   module _ (k : ℕ) (ek′ : k ≡ firstSize s at has) where
     class-split : (t : Tree) → Input s at size depth (one t) → Split s at size depth t (children.heritage (t .head)) k
-    class-split t i =
-        subst (λ (x : ℕ). Split s at size depth t (children.heritage (t .head)) x) (sym (ek′ ∙ ap (firstSize s at) (heritage-has t i)))
-        (split i (children.heritage (t .head)) (omega arith) (class-plan t i .has .1))
+    class-split = heritage-split ek u has eu eh k ek′
 
     heritage-list : (t : Tree) (i : Input s at size depth (one t)) → allListedAs st InOrder (class-split t i .first) ≡ effectsOf st (heritage t)
     heritage-list t i = ap (concatMap (effects st)) (class-split t i .first-is)

@@ -1,27 +1,25 @@
 -- What a plan says of a node's effect list, and which plan a node has by its kind.
 use mathlib.Core.Path.{_≡_, refl, sym, ap, ap₂, subst, _∙_}
-use mathlib.Core.Bool.{Bool, true, false, cond, _&&_}
+use mathlib.Core.Bool.{Bool, true, false, cond}
 use mathlib.Core.List.{List, [], _∷_, _++_, map, append-nil}
 use Prim.Native.Nat.{ℕ, _/_, _%_, _<_, _≤_}
 use native.Mathlib.Omega.{arith}
 use lib.Dec.{eqb, leb}
 use lib.ListN.{drop}
-use borrow.Author.Tests.{le-leb, lt-leb, eq-eqb, ne-eqb, eqb-true, leb-true}
-use Rattle.tree.specs.Tree.{Head, Tree, trees, count}
+use borrow.Author.Tests.{le-leb, lt-leb, ne-eqb, leb-true}
+use Rattle.tree.specs.Tree.{Tree, trees, count}
 use Rattle.tree.specs.Children.{childCountOk, nodeOk}
-use Rattle.tree.specs.Children as children
-use Rattle.tree.specs.Fields.{headAt}
 use Rattle.tree.specs.Stands.{node-parts}
 use Rattle.rules.specs.Lists.{concatMap, ofTwo}
 use Rattle.rules.specs.Settings.{Settings, derived}
-use Rattle.rules.specs.Handler.{Handler, handler, isKind, isAddition}
+use Rattle.rules.specs.Handler.{Handler, handler}
 use Rattle.rules.specs.Facts.{flagged, ofIdentifier, pureNew, pureCall}
 use Rattle.rules.specs.Class.{heritage, elements}
 use Rattle.rules.specs.Effects.{Evaluated, evaluate, effects, effectsOf, effectsBy, itself, itselfIf, coercion, additionEffect, childrenInOrder, classIsEffect}
 use Rattle.rules.specs.Proofs.Lists.{by-cond, take-map, drop-map, concatMap-map}
 use Rattle.rules.specs.Proofs.Unfold.{evaluated, inOrder-is}
 use Rattle.rules.specs.Proofs.Effects.{own, coerced-is}
-use Rattle.readings.specs.Node.{Node, Tells}
+use Rattle.readings.specs.Node.{Node}
 use Rattle.tree.specs.Kind as kind
 use Rattle.effects.specs.declared.plan.Plan.{Plan}
 use Rattle.effects.specs.declared.plan.Plan.the-variants.{Nothing, Itself, Children, ChildrenThenItself, Coerced, Arguments, Addition, Class}
@@ -44,7 +42,7 @@ abbrev pub itselfOr : Bool → Plan
 itselfOr true = Itself
 itselfOr false = Nothing
 
--- The children that a plan counts on.
+-- What a plan counts on of the node.
 abbrev pub HasChildren : Plan → Tree → Type 0
 HasChildren Nothing t = Unit {0}
 HasChildren Itself t = Unit {0}
@@ -52,8 +50,8 @@ HasChildren Children t = Unit {0}
 HasChildren ChildrenThenItself t = Unit {0}
 HasChildren Coerced t = Unit {0}
 HasChildren Arguments t = 1 ≤ count (t .kids)
-HasChildren Addition t = (t .head .kind ≡ kind.binary) × (t .head .sub ≡ 2) × (count (t .kids) ≡ 2)
-HasChildren Class t = (t .head .kind ≡ kind.class) × (children.heritage (t .head) ≤ count (t .kids))
+HasChildren Addition t = (t .head .kind ≡ kind.binary) × (t .head .sub ≡ 2)
+HasChildren Class t = t .head .kind ≡ kind.class
 
 pub record Planned (s : Settings) (t : Tree) (p : Plan) : Type 0 where
   pub is : effects s t ≡ planned p s t
@@ -202,13 +200,11 @@ module _ (s : Settings) (t : Tree) where
       unfolding handler
       plan-comparison x = in-order Handler.comparison (binary-handled Handler.comparison (rw x)) refl
 
-      pub plan-addition : nodeOk (t .head) (t .kids) ≡ true → u ≡ 2 → Planned s t Addition
-      unfolding handler childCountOk
-      plan-addition w x =
+      pub plan-addition : u ≡ 2 → Planned s t Addition
+      unfolding handler
+      plan-addition x =
           let h = binary-handled Handler.addition (rw x) in
-          let c : childCountOk (t .head) (count (t .kids)) ≡ true = node-parts (t .head) (t .kids) w .counted in
-          let d : eqb (count (t .kids)) 2 ≡ true = rw (sym ek ∙ e) at c in
-          record { is = own s t Handler.addition h ∙ ap₂ (_++_) (inOrder-is s ts) (two-evaluated s (additionEffect t) (itselfIf (flagged t) t) ts); has = (sym ek ∙ e, sym eu ∙ x, eqb-true (count (t .kids)) 2 d) }
+          record { is = own s t Handler.addition h ∙ ap₂ (_++_) (inOrder-is s ts) (two-evaluated s (additionEffect t) (itselfIf (flagged t) t) ts); has = (sym ek ∙ e, sym eu ∙ x) }
 
       pub after-binary : (u ≡ 1 → ⊥) → (u ≡ 2 → ⊥) → effects s t ≡ effectsOf s ts ++ itselfIf (flagged t) t
       unfolding handler
@@ -237,15 +233,9 @@ module _ (s : Settings) (t : Tree) where
     unfolding handler
     after-new e p = after-children Handler.new (rw (sym ek ∙ e)) (rw p)
 
-    pub plan-class : nodeOk (t .head) (t .kids) ≡ true → k ≡ kind.class → Planned s t Class
-    unfolding handler childCountOk
-    plan-class w e =
-        let c : childCountOk (t .head) (count (t .kids)) ≡ true = node-parts (t .head) (t .kids) w .counted in
-        let d : leb (children.heritage (t .head)) (count (t .kids)) ≡ true = rw (sym ek ∙ e) at c in
-        record {
-          is = own s t Handler.class (rw (sym ek ∙ e)) ∙ class-parts;
-          has = (sym ek ∙ e, leb-true (children.heritage (t .head)) (count (t .kids)) d);
-        }
+    pub plan-class : k ≡ kind.class → Planned s t Class
+    unfolding handler
+    plan-class e = record { is = own s t Handler.class (rw (sym ek ∙ e)) ∙ class-parts; has = sym ek ∙ e }
 
     -- Arrays, objects, properties, sequences and the rest.
     pub plan-other : 5 < k → (k ≡ kind.this → ⊥) → (k ≡ kind.elision → ⊥) → (k ≡ kind.spread → ⊥) → (k ≡ kind.template → ⊥)

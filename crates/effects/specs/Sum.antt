@@ -1,24 +1,26 @@
 -- An addition: both sides, then its coercion or itself, with the string answer.
-use mathlib.Core.Path.{_≡_, refl, sym, ap, _∙_}
+use mathlib.Core.Path.{_≡_, sym, ap, _∙_}
 use mathlib.Core.Bool.{Bool, true, false, _||_}
-use mathlib.Core.List.{List, [], _∷_, _++_, append-assoc, append-nil}
+use mathlib.Core.List.{List, _++_}
 use Prim.Native.Nat.{ℕ, _+_, _-_, _≤_}
 use native.Mathlib.Omega.{arith}
 use lib.Dec.{eqb}
 use borrow.Author.Tests.{eqb-true, eq-eqb}
 use lib.ListN.{length, length-append}
-use Rattle.tree.specs.Tree.{Head, Forest, nil, node, Tree, trees, one, count, recur-is}
+use Rattle.tree.specs.Tree.{Head, Tree, one, recur-is}
 use Rattle.tree.specs.Fields.{start, headAt, subtreeAt}
 use Rattle.tree.specs.Below.{and-left, and-right}
-use Rattle.rules.specs.Lists.{keepIf, ofTwo}
+use Rattle.rules.specs.Lists.{keepIf}
 use Rattle.rules.specs.Settings.{Settings}
 use Rattle.rules.specs.Handler.{isKind, isAddition}
 use Rattle.rules.specs.Facts.{flagged, possibleSymbol, stringFact, isStringRule, isString}
-use Rattle.rules.specs.Effects.{effects, effectsOf, itself, itselfIf, coercion, coercionNumber, additionEffect}
+use Rattle.rules.specs.Proofs.Addition.{isString-sides, effects-sides}
+use Rattle.rules.specs.Effects.{effects, itself, itselfIf, coercion, coercionNumber, additionEffect}
 use Rattle.readings.specs.Node.{Node, Tells}
 use Rattle.tree.specs.Kind as kind
-use Rattle.readings.specs.Split.{first-node, first-input, rest-input, some-size, kids-input}
-use Rattle.effects.specs.Plan.{Planned, Plans, plan-addition}
+use Rattle.readings.specs.Split.{some-size}
+use Rattle.readings.specs.Addition.{SidesAt, sides-at}
+use Rattle.effects.specs.Plan.{Plans}
 use Rattle.effects.specs.declared.listing.Part.the-variants.{InOrder}
 use Rattle.effects.specs.declared.plan.Plan.the-variants.{Addition}
 use Rattle.effects.specs.Listing.{Wrote, GivenTree, ListedTree, wrote-both, wrote-as}
@@ -56,19 +58,10 @@ module _ {s : List ℕ} {at size depth : ℕ} {st : Settings} {pos room : ℕ} w
       }
 
 -- The two sides.
-record Sum (s : List ℕ) (at size depth : ℕ) (st : Settings) (t : Tree) : Type 0 where
-  l : Tree
-  r : Tree
-  kids-are : trees (t .kids) ≡ l ∷ r ∷ []
-  addition : isAddition t ≡ true
-  is : effects st t ≡ effects st l ++ (effects st r ++ additionEffect t l r)
-  left-in : Input s (at + 1) (subtreeAt s (at + 1)) (depth - 1) (one l)
-  right-in : Input s (at + 1 + subtreeAt s (at + 1)) (subtreeAt s (at + 1 + subtreeAt s (at + 1))) (depth - 1) (one r)
-
 module _ {s : List ℕ} (at size depth : ℕ) (st : Settings) (ek : headAt s at .kind ≡ kind.binary) (eu : headAt s at .sub ≡ 2) where
-  sum-of : (t : Tree) → Input s at size depth (one t) → Sum s at size depth st t
+  sum-of : (t : Tree) → Input s at size depth (one t) → SidesAt s at size depth t
   unfolding isAddition isKind
-  sum-of t i = go (t .kids) refl
+  sum-of t i = sides-at t (rw (eq-eqb (t .head .kind) kind.binary k, eq-eqb (t .head .sub) 2 u)) i
     where
       k : t .head .kind ≡ kind.binary
       k = sym (ap (λ (x : Head). x .kind) (i .holds .stands .0)) ∙ ek
@@ -76,37 +69,9 @@ module _ {s : List ℕ} (at size depth : ℕ) (st : Settings) (ek : headAt s at 
       u : t .head .sub ≡ 2
       u = sym (ap (λ (x : Head). x .sub) (i .holds .stands .0)) ∙ eu
 
-      planned-t : Planned st t Addition
-      planned-t = plan-addition st t kind.binary (sym k) refl 2 (sym u) (first-node i) refl
-
-      sum-t : isAddition t ≡ true
-      sum-t = rw (eq-eqb (t .head .kind) kind.binary k, eq-eqb (t .head .sub) 2 u)
-
-      go : (f : Forest) → t .kids ≡ f → Sum s at size depth st t
-      go nil e = absurd (omega (arith, planned-t .has .2, ap count e))
-      go (node a xs nil) e = absurd (omega (arith, planned-t .has .2, ap count e))
-      go (node a xs (node b ys nil)) e =
-          let kids : Input s (at + 1) (size - 1) (depth - 1) (node a xs (node b ys nil)) = rw e at (kids-input i) in
-          let l : Tree = record { head = a; kids = xs } in
-          let r : Tree = record { head = b; kids = ys } in
-          record {
-            l = l;
-            r = r;
-            kids-are = ap trees e;
-            addition = sum-t;
-            is =
-                planned-t .is
-                ∙ ap (λ (f : Forest). effectsOf st (trees f) ++ ofTwo (additionEffect t) (itselfIf (flagged t) t) (trees f)) e
-                ∙ append-assoc (effects st l) (effects st r ++ []) (additionEffect t l r)
-                ∙ ap (λ (x : List ℕ). effects st l ++ (x ++ additionEffect t l r)) (append-nil (effects st r));
-            left-in = first-input kids;
-            right-in = first-input (rest-input kids);
-          }
-      go (node a xs (node b ys (node c cs rest))) e = absurd (omega (arith, planned-t .has .2, ap count e))
-
   -- What the functions are given on the way.
   module _ {pos room : ℕ} (g : GivenTree s at size depth st InOrder pos room) where
-    abbrev S : Sum s at size depth st (g .tree)
+    abbrev S : SidesAt s at size depth (g .tree)
     S = sum-of (g .tree) (g .input)
 
     sum-length : pos + (length (effects st (S .l)) + (length (effects st (S .r)) + length (additionEffect (g .tree) (S .l) (S .r)))) ≤ room
@@ -114,7 +79,7 @@ module _ {s : List ℕ} (at size depth : ℕ) (st : Settings) (ek : headAt s at 
         omega (
           arith,
           g .fits,
-          ap length (S .is),
+          ap length (effects-sides st (g .tree) (S .l) (S .r) (S .sides)),
           length-append (effects st (S .l)) (effects st (S .r) ++ additionEffect (g .tree) (S .l) (S .r)),
           length-append (effects st (S .r)) (additionEffect (g .tree) (S .l) (S .r)),
         )
@@ -138,8 +103,7 @@ module _ {s : List ℕ} (at size depth : ℕ) (st : Settings) (ek : headAt s at 
 
   -- The string answer of an addition.
   sum-string : (t : Tree) (i : Input s at size depth (one t)) → isString t ≡ (isString (sum-of t i .l) || stringFact (sum-of t i .r))
-  unfolding isString isStringRule
-  sum-string t i = recur-is isStringRule t ∙ rw (sum-of t i .addition, sum-of t i .kids-are)
+  sum-string t i = isString-sides t (sum-of t i .l) (sum-of t i .r) (sum-of t i .sides)
 
   -- Both sides are listed; `string` is the left side's answer.
   module _ {z y : ℕ} (ez : z ≡ subtreeAt s (at + 1)) (ey : y ≡ subtreeAt s (at + 1 + z)) {old mid mid′ : List ℕ} {pos next next′ : ℕ} {string : Bool}
@@ -161,7 +125,7 @@ module _ {s : List ℕ} (at size depth : ℕ) (st : Settings) (ek : headAt s at 
 
     sides-wrote : (t : Tree) (i : Input s at size depth (one t)) {new : List ℕ} {r : ℕ} → Wrote mid′ new next′ r (additionEffect t (sum-of t i .l) (sum-of t i .r)) → Wrote old new pos r (effects st t)
     sides-wrote t i w =
-        wrote-as (wrote-both (listed-left .listed .by (sum-of t i .l) (sum-of t i .left-in)) (wrote-both (listed-right .by (sum-of t i .r) (sum-of t i .right-in)) w)) (sym (sum-of t i .is))
+        wrote-as (wrote-both (listed-left .listed .by (sum-of t i .l) (sum-of t i .left-in)) (wrote-both (listed-right .by (sum-of t i .r) (sum-of t i .right-in)) w)) (sym (effects-sides st t (sum-of t i .l) (sum-of t i .r) (sum-of t i .sides)))
 
     tail-fits : {room : ℕ} (g : GivenTree s at size depth st InOrder pos room) → next′ + length (additionEffect (g .tree) (S g .l) (S g .r)) ≤ room
     tail-fits g =

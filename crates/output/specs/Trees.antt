@@ -7,7 +7,7 @@ use lib.ListN.{length, getD}
 use Rattle.tree.specs.Tree.{Head, Forest, nil, node, Tree, forest, one, count, records, size}
 use Rattle.tree.specs.Fields.{start, headAt, childrenAt, subtreeAt}
 use Rattle.tree.specs.Stands.{Stands}
-use Rattle.output.specs.Bytes.{Agree, Copied, Moved, Recorded, agree-all, agree-trans, agree-copied, kept-copied, copied-part, copied-u16, head-copied}
+use Rattle.output.specs.Bytes.{Agree, Copied, Moved, Recorded, agree-all, agree-less, agree-trans, agree-copied, kept-copied, copied-part, copied-u16, head-copied}
 
 -- The trees ts stand from record p to record e.
 pub record Spans (s : List ℕ) (p e : ℕ) (ts : List Tree) : Type 0 where
@@ -75,6 +75,10 @@ wrote-both a b x y = record {
   spans = spans-append a b (spans-agree (x .spans) (y .frame) (omega arith)) (y .spans);
   frame = agree-trans (x .frame) (y .frame) (omega (arith, x .spans .ends));
 }
+
+-- What is written over trees that were written from record p on.
+pub wrote-over : {old mid new : List ℕ} {p next pos end : ℕ} {a b : List Tree} → Wrote old mid p next a → pos ≤ p → Wrote mid new pos end b → Wrote old new pos end b
+wrote-over {pos = pos} x l y = record { spans = y .spans; frame = agree-trans (agree-less (start pos) (omega arith) (x .frame)) (y .frame) (omega arith) }
 
 pub wrote-as : {old new : List ℕ} {pos next : ℕ} {a b : List Tree} → Wrote old new pos next a → a ≡ b → Wrote old new pos next b
 wrote-as {old} {new} {pos} {next} w e = subst (λ (l : List Tree). Wrote old new pos next l) e w

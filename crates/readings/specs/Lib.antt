@@ -9,3 +9,4 @@ pub mod Input
 pub mod Split
 pub mod Element
 pub mod Addition
+pub mod Heritage

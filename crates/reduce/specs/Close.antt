@@ -8,8 +8,7 @@ use Rattle.tree.specs.Tree.{Place, Head, Tree}
 use Rattle.tree.specs.Fields.{start, headAt}
 use Rattle.rules.specs.Made.{placeOf}
 use Rattle.rules.specs.Reduce.{flush, noneOneSeveral}
-use Rattle.output.specs.Bytes.{Agree, agree-less, agree-trans}
-use Rattle.output.specs.Trees.{Spans, Wrote, spans-agree, spans-append}
+use Rattle.output.specs.Trees.{Spans, Wrote, wrote-over, spans-agree, spans-append}
 use Rattle.rewrite.specs.Waiting.{Waits, GivenWaiting, Flushed, waits-after}
 use Rattle.rewrite.specs.Becomes.{GivenList, Becomes, noneOneSeveralOf}
 use Rattle.reduce.specs.Walked.{Progress}
@@ -28,9 +27,6 @@ pub record GivenWalked (s : List ℕ) (at : ℕ) (out : List ℕ) (pos slot end 
 pub record Closes (make : Place → List Tree → Tree) (s : List ℕ) (at : ℕ) (old new : List ℕ) (pos slot end r : ℕ) : Type 0 where
   pub by : (t : Tree) → headAt s at ≡ t .head → (q : Progress) → Spans old (pos + 1) slot (q .done) → Waits old slot end (q .waiting)
       → Wrote old new pos r (noneOneSeveral (placeOf t) (q .done ++ flush make (placeOf t) (q .waiting)))
-
-pub wrote-over : {old mid new : List ℕ} {pos r n : ℕ} {ts : List Tree} → Agree old mid n → start pos ≤ n → Wrote mid new pos r ts → Wrote old new pos r ts
-wrote-over {pos = pos} a l w = record { spans = w .spans; frame = agree-trans (agree-less (start pos) l a) (w .frame) (omega arith) }
 
 closed-list : (make : Place → List Tree → Tree) {old mid : List ℕ} {from slot end place : ℕ} → Flushed make old mid slot end place → (q : Progress) → Spans old from slot (q .done) → Waits old slot end (q .waiting)
     → Spans mid from end (q .done ++ flush make place (q .waiting))
@@ -59,6 +55,6 @@ module _ {s : List ℕ} {at : ℕ} {old : List ℕ} {pos slot end : ℕ} where
             → Wrote old new pos r (noneOneSeveral (placeOf t) (q .done ++ flush make (placeOf t) (q .waiting)))
         go t h q d w =
             let e : place ≡ t .head .place = ep ∙ ap (λ (x : Head). x .place) h in
-            wrote-over (f .by (q .waiting) w .frame) (omega (arith, d .ends))
+            wrote-over (f .by (q .waiting) w) (omega (arith, d .ends))
             (subst (λ (x : ℕ). Wrote mid new pos r (noneOneSeveral (placeOf t) (q .done ++ flush make x (q .waiting)))) e
             (b .by t h (q .done ++ flush make place (q .waiting)) (closed-list make f q d w)))

@@ -21,9 +21,9 @@ use Rattle.handlers.specs.declared.outcome.Outcome.{Outcome}
 use Rattle.handlers.specs.declared.outcome.Outcome.the-variants.{Removable, Unchanged, Unwrapped, Sequence, Array, Comparison, Arguments, Addition, Class}
 use Rattle.handlers.specs.declared.outcome.Outcome.the-variants as outcomes
 use Rattle.output.specs.Bytes.{Agree, agree-all}
-use Rattle.output.specs.Trees.{Spans, Wrote, CopiedTree, wrote-none, wrote-as}
+use Rattle.output.specs.Trees.{Wrote, CopiedTree, wrote-none, wrote-over, wrote-as}
 use Rattle.output.specs.Given as whole
-use Rattle.addition.specs.Fold.{Removes}
+use Rattle.addition.specs.Fold.{RemovesAddition}
 use Rattle.class.specs.Class.{GivenClass, RemovesClass}
 use Rattle.rewrite.specs.Waiting.{waits-none}
 use Rattle.rewrite.specs.Becomes.{GivenList, Becomes, noneOneSeveralOf, arrayOf, joinKeptOf}
@@ -32,7 +32,7 @@ use Rattle.reduce.specs.declared.walk.Part.the-variants.{InOrder, Argume
 use Rattle.reduce.specs.Walked.{Progress, walked}
 use Rattle.reduce.specs.Laws.{template-walked, object-walked, in-order-walked, arguments-walked}
 use Rattle.reduce.specs.Settled.{Stepped}
-use Rattle.reduce.specs.Close.{GivenWalked, Closes, wrote-over}
+use Rattle.reduce.specs.Close.{GivenWalked, Closes}
 use Rattle.reduce.specs.Given.{GivenTree, ReducedTree, GivenChildren, ReducedChildren}
 
 pub as-outcome : {s : List ℕ} {at : ℕ} {st : Settings} {o : Outcome} (q : Outcome) → o ≡ q → Handles s at st o → Handles s at st q
@@ -71,7 +71,7 @@ module _ {s : List ℕ} {at size depth : ℕ} {old mid : List ℕ} {pos next : �
   }
 
   becomes-left : (f : Tree → List Tree → List Tree) {new : List ℕ} {r : ℕ} → Becomes f s at mid new pos next r → (t : Tree) → Input s at size depth (one t) → (ts : List Tree) → Wrote old mid (pos + 1) next ts → Wrote old new pos r (f t ts)
-  becomes-left f b t i ts w = wrote-over (w .frame) (omega arith) (b .by t (i .holds .stands .0) ts (w .spans))
+  becomes-left f b t i ts w = wrote-over w (omega arith) (b .by t (i .holds .stands .0) ts (w .spans))
 
 module _ {s : List ℕ} {at size depth : ℕ} {st : Settings} where
   outcome-is : (o : Outcome) → Handles s at st o → (t : Tree) → Input s at size depth (one t) → HandledAs st t o
@@ -135,7 +135,7 @@ module _ {s : List ℕ} {at size depth : ℕ} {st : Settings} where
       closes-done o make e h b = record {
         by = λ t i.
             let d = walked-stepped a t i in
-            wrote-as (wrote-over (d .done .frame) (omega arith) (b .by t (i .holds .stands .0) (walked part st [] (trees (t .kids))) (d .done .spans) (d .waiting)))
+            wrote-as (wrote-over (d .done) (omega arith) (b .by t (i .holds .stands .0) (walked part st [] (trees (t .kids))) (d .done .spans) (d .waiting)))
             (e t ∙ sym (outcome-is o h t i .is));
       }
 
@@ -183,7 +183,7 @@ module _ {s : List ℕ} {at size depth : ℕ} {st : Settings} where
         arguments-done b = record { by = λ t i. wrote-as (becomes-left noneOneSeveralOf b t i (foldArgumentsIntoNeededExpressions (map (reduced st) (drop 1 (trees (t .kids))))) (arguments-wrote a t i)) (sym (outcome-is Arguments h t i .is)) }
 
   -- An addition, and a class: each has a rule of its own, which reduces no child.
-  pub addition-done : Handles s at st Addition → {old new : List ℕ} {pos r : ℕ} → Removes s at size old new pos r → ReducedTree s at size depth st old new pos r
+  pub addition-done : Handles s at st Addition → {old new : List ℕ} {pos r : ℕ} → RemovesAddition s at size old new pos r → ReducedTree s at size depth st old new pos r
   addition-done h a = record { by = λ t i. wrote-as (a .by t depth i) (sym (outcome-is Addition h t i .is)) }
 
   pub class-given : Handles s at st Class → {pos room : ℕ} → GivenTree s at size depth pos room → GivenClass s at size pos room

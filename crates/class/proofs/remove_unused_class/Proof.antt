@@ -1,6 +1,6 @@
 use mathlib.Core.Path.{refl, _∙_}
 use native.Mathlib.Omega.{arith}
-use Rattle.class.specs.Class.{heritage-first, heritage-within, heritage-given, elements-given, none-left, sequence-given, some-left}
+use Rattle.class.specs.Class.{class-first, heritage-within, heritage-given, elements-given, none-left, sequence-given, some-left}
 use borrow.Author.Needs.{needs}
 use Rattle.class.proofs.remove_unused_class.Statement.{statement}
 use Rattle.class.proofs.remove_unused_class.Tie as tie
@@ -9,7 +9,7 @@ sub-at-requires : tie.Need-sub-at-requires
 sub-at-requires c κs = search needs
 
 first-size-requires : tie.Need-first-size-requires
-first-size-requires c κs = heritage-first (c .before .before .before .pre .kind-is) _ _ (c .sub-at .ensures .0) refl (c .before .before .before .pre .given)
+first-size-requires c κs = class-first (c .before .before .before .pre .kind-is) _ _ (c .sub-at .ensures .0) refl (c .before .before .before .pre .given)
 
 add-first : tie.Need-add-first
 add-first c = search needs

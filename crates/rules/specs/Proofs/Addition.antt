@@ -57,7 +57,7 @@ pub foldReads-sides : (t l r : Tree) → Sides t l r → foldReads t ≡ foldRea
 unfolding foldReads foldReadsRule
 foldReads-sides t l r S = recur-is foldReadsRule t ∙ rw (S .addition, S .kids)
 
-isString-sides : (t l r : Tree) → Sides t l r → isString t ≡ (isString l || stringFact r)
+pub isString-sides : (t l r : Tree) → Sides t l r → isString t ≡ (isString l || stringFact r)
 unfolding isString isStringRule
 isString-sides t l r S = recur-is isStringRule t ∙ rw (S .addition, S .kids)
 
@@ -96,7 +96,7 @@ module _ (s : Settings) where
   sides-in-order : (t l r : Tree) → (effects s l ++ (effects s r ++ [])) ++ additionEffect t l r ≡ effects s l ++ (effects s r ++ additionEffect t l r)
   sides-in-order t l r = rw (append-nil (effects s r), append-assoc (effects s l) (effects s r) (additionEffect t l r))
 
-  effects-sides : (t l r : Tree) → Sides t l r → effects s t ≡ effects s l ++ (effects s r ++ additionEffect t l r)
+  pub effects-sides : (t l r : Tree) → Sides t l r → effects s t ≡ effects s l ++ (effects s r ++ additionEffect t l r)
   unfolding effects
   effects-sides t l r S = own s t Handler.addition (addition-handled t (S .addition)) ∙ rw (S .kids) (sides-in-order t l r)
 

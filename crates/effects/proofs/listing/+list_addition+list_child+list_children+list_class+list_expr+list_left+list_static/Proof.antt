@@ -12,7 +12,7 @@ use Rattle.effects.specs.Children.{Walking, walk-start, walk-done, walk-
 use Rattle.effects.specs.Child.{coerced-given, coerced-entry, coerced-done, element-first, key-within, key-given, key-done, value-given, block-given, static-done, only-block-given, only-block-done}
 use Rattle.effects.specs.Expression.{nothing-done, itself-given, itself-done, children-given, children-done, then-given, then-entry, then-done, template-given, template-done, callee-first, callee-within, arguments-given, arguments-done}
 use Rattle.effects.specs.Sum.{sum-planned, sum-told, left-inside, left-given, right-inside, right-given, right-coercion, right-done, left-coercion, left-done, sum-itself, sum-done, side-other}
-use Rattle.effects.specs.Class.{class-planned, heritage-first, heritage-within, heritage-given, class-itself, keys-given, statics-given, class-done}
+use Rattle.effects.specs.Class.{class-planned, class-first, heritage-within, heritage-given, class-itself, keys-given, statics-given, class-done}
 use borrow.Fn.Kinds.{In}
 use borrow.Fn.PlainCycle.{Measures, is, falls, and}
 use Rattle.effects.proofs.listing.list_addition.Reads as list-addition
@@ -337,7 +337,7 @@ list-class-sub-at-requires : (t : ℕ) → list-class-lts.Need-sub-at-requires (
 list-class-sub-at-requires t c κs = given-inside (c .before .before .pre .1 .given)
 
 list-class-first-size-requires : (t : ℕ) → list-class-lts.Need-first-size-requires (list-class-calls t) (list-class-at t) list-class.Post
-list-class-first-size-requires t c κs = heritage-first _ (c .before .before .before .pre .1 .kind-is) _ _ (c .sub-at .ensures .0) refl (c .before .before .before .pre .1 .given)
+list-class-first-size-requires t c κs = class-first _ (c .before .before .before .pre .1 .kind-is) _ _ (c .sub-at .ensures .0) refl (c .before .before .before .pre .1 .given)
 
 list-class-add-first : (t : ℕ) → list-class-lts.Need-add-first (list-class-calls t) (list-class-at t) list-class.Post
 list-class-add-first t c = omega (arith, given-inside (c .before .before .before .before .pre .1 .given))

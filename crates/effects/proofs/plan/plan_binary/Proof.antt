@@ -12,7 +12,7 @@ returns : tie.Need-returns
 returns c = record { by = λ t n w e. plan-comparison _ t _ (sym e) refl _ (c .before .sub-at .ensures .0 ∙ ap (λ (h : Head). h .sub) (n .stands .0)) (c .if1 .taken) }
 
 returns-2 : tie.Need-returns-2
-returns-2 c = record { by = λ t n w e. plan-addition _ t _ (sym e) refl _ (c .before .before .sub-at .ensures .0 ∙ ap (λ (h : Head). h .sub) (n .stands .0)) w (c .if2 .taken) }
+returns-2 c = record { by = λ t n w e. plan-addition _ t _ (sym e) refl _ (c .before .before .sub-at .ensures .0 ∙ ap (λ (h : Head). h .sub) (n .stands .0)) (c .if2 .taken) }
 
 after-children-requires : tie.Need-after-children-requires
 after-children-requires c κs = search needs

@@ -75,7 +75,7 @@ returns-12 : tie.Need-returns-12
 returns-12 c = record { by = λ t n w. c .after-children3 .ensures .by t n (after-new _ t _ (c .before .before .before .before .before .kind-at .ensures .0 ∙ ap (λ (h : Head). h .kind) (n .stands .0)) (c .before .before .before .match .keys8) (sym (c .before .before .pure-new .ensures .by t n) ∙ c .before .if4 .left)) }
 
 returns-13 : tie.Need-returns-13
-returns-13 c = record { by = λ t n w. plan-class _ t _ (c .before .before .kind-at .ensures .0 ∙ ap (λ (h : Head). h .kind) (n .stands .0)) w (c .match .keys9) }
+returns-13 c = record { by = λ t n w. plan-class _ t _ (c .before .before .kind-at .ensures .0 ∙ ap (λ (h : Head). h .kind) (n .stands .0)) (c .match .keys9) }
 
 returns-14 : tie.Need-returns-14
 returns-14 c = record { by = λ t n w. plan-other _ t _ (c .before .before .kind-at .ensures .0 ∙ ap (λ (h : Head). h .kind) (n .stands .0)) (c .before .if1 .left) (c .match .rest .0 .0 .0 .0 .0 .0 .0 .0 .1) (c .match .rest .0 .0 .0 .0 .0 .0 .0 .1) (c .match .rest .0 .0 .0 .0 .0 .0 .1) (c .match .rest .0 .0 .0 .0 .0 .1) (c .match .rest .0 .0 .0 .0 .1) (c .match .rest .0 .0 .0 .1) (c .match .rest .0 .0 .1) (c .match .rest .0 .1) (c .match .rest .1) }
