@@ -9,7 +9,7 @@ use Rattle.stated.specs.Stated.{Stated, refused, answered, injective-by}
 use Rattle.tree.specs.Fields.{settingsOf, countOf}
 use Rattle.tree.specs.Refusal.{listEffectsLimits, refusal, treeOf}
 use Rattle.rules.specs.Effects.{effects}
-use Rattle.effects.specs.Listing.{settingsWith}
+use Rattle.readings.specs.Node.{settingsWith}
 use Rattle.effects.specs.declared.Listed.{Listed}
 use Rattle.effects.specs.declared.Listed.the-variants.{Refused, Count}
 

@@ -14,9 +14,6 @@ use Rattle.readings.specs.Input.{Input}
 use Rattle.effects.specs.declared.listing.Part.{Part}
 use Rattle.effects.specs.declared.listing.Part.the-variants.{InOrder, Coerced, Key, Static}
 
-abbrev pub settingsWith : ℕ → Settings
-settingsWith byte = record { byte = byte }
-
 -- A child in order; a template's child, followed by its coercion; of a class element the computed key, or the static value or block.
 abbrev pub listedAs : Settings → Part → Tree → List ℕ
 listedAs s InOrder t = effects s t

@@ -20,7 +20,8 @@ use Rattle.tree.specs.Accepted.{passed, counted-parts, Accepted, accepted}
 use Rattle.file.specs.Answer.{verdict, verdict-refused, verdict-accepted}
 use Rattle.rules.specs.Effects.{effects}
 use Rattle.rules.specs.Theorems.{few-effects}
-use Rattle.effects.specs.Listing.{settingsWith, GivenTree, ListedTree}
+use Rattle.readings.specs.Node.{settingsWith}
+use Rattle.effects.specs.Listing.{GivenTree, ListedTree}
 use Rattle.effects.specs.Answer.{number, effectList, Answers}
 use Rattle.effects.specs.declared.listing.Part.the-variants.{InOrder}
 use Rattle.effects.specs.declared.Listed.the-variants.{Refused, Count}

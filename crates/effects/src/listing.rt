@@ -6,7 +6,8 @@ use crate::plan::Plan;
 ghost use mathlib.Core.Path.{_≡_};
 ghost use lib.ListN.{length};
 ghost use Rattle.rules.specs.Effects.{effects};
-ghost use Rattle.effects.specs.Listing.{settingsWith, listedAs, GivenChildren, ListedChildren, GivenTree, ListedTree};
+ghost use Rattle.readings.specs.Node.{settingsWith};
+ghost use Rattle.effects.specs.Listing.{listedAs, GivenChildren, ListedChildren, GivenTree, ListedTree};
 ghost use Rattle.effects.specs.Sum.{ListedSide, GivenSum};
 ghost use Rattle.effects.specs.Class.{GivenClass};
 

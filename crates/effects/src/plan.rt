@@ -4,8 +4,7 @@ ghost use mathlib.Core.Path.{_≡_};
 ghost use Prim.Native.Nat.{_+_, _≤_};
 ghost use lib.ListN.{length};
 ghost use Rattle.tree.specs.Fields.{start};
-ghost use Rattle.readings.specs.Node.{SomeNode};
-ghost use Rattle.effects.specs.Listing.{settingsWith};
+ghost use Rattle.readings.specs.Node.{SomeNode, settingsWith};
 ghost use Rattle.effects.specs.Plan.{Plans, PlansAfter, PlansOf, itselfOr};
 ghost use Rattle.tree.specs.Kind.{unary, binary};
 

@@ -17,7 +17,7 @@ use Rattle.tree.specs.File.{fileBytes}
 use Rattle.tree.specs.Accepted.{accepted}
 use Rattle.rules.specs.Effects.{effects}
 use Rattle.rules.specs.Theorems.{few-effects}
-use Rattle.effects.specs.Listing.{settingsWith}
+use Rattle.readings.specs.Node.{settingsWith}
 use Rattle.effects.specs.Answer.{numberBy, number, effectList, statedOf}
 use Rattle.reduce.specs.Answer as reduction
 use Rattle.reduce.specs.Run.{promises, unnumbered}

@@ -5,7 +5,7 @@ use borrow.Author.Needs.{needs}
 use Rattle.effects.specs.declared.listing.Part.the-variants.{InOrder, Coerced, Key, Static}
 use Rattle.effects.specs.declared.plan.Plan.the-variants.{Nothing, Itself, Children, ChildrenThenItself, Arguments, Addition, Class}
 use Rattle.effects.specs.declared.plan.Plan.the-variants as plan
-use Rattle.effects.specs.Listing.{settingsWith}
+use Rattle.readings.specs.Node.{settingsWith}
 use Rattle.readings.specs.Split.{some-depth, some-size}
 use Rattle.effects.specs.Given.{as-part, for-part, as-plan, given-node, given-inside}
 use Rattle.effects.specs.Children.{Walking, walk-start, walk-done, walk-subtree, child-some, child-within, child-given, walk-on}
