@@ -11,7 +11,8 @@ use Rattle.rules.specs.Facts.{flagged, ofIdentifier, pureNew, pureCall, hasSide
 use Rattle.rules.specs.Class.{keptClass}
 use Rattle.readings.specs.Node.{Node, Tells}
 use Rattle.handlers.specs.declared.outcome.Outcome.{Outcome}
-use Rattle.handlers.specs.declared.outcome.Outcome.the-variants.{Removable, Unchanged, Unwrapped, Sequence, Array, Template, Object, Comparison, Arguments, Addition, Class}
+use Rattle.handlers.specs.declared.outcome.Outcome.the-variants.{Removable, Unchanged, Unwrapped, Rewritten, Arguments, Addition, Class}
+use Rattle.handlers.specs.declared.outcome.Rewrite.the-variants.{Sequence, Array, Template, Object, Comparison}
 
 -- Removable exactly if the test fails, else unchanged.
 abbrev pub staysIf : Bool → Outcome
@@ -36,11 +37,11 @@ ofNew s t = cond (pureNew s t) Arguments Unchanged
 
 -- "All possibly symbols and text 0: unchanged."
 abbrev pub ofTemplate : Tree → Outcome
-ofTemplate t = cond (unchangedTemplate t) Unchanged Template
+ofTemplate t = cond (unchangedTemplate t) Unchanged (Rewritten Template)
 
 -- "Only spreads: removable exactly if none is flagged, else unchanged."
 abbrev pub ofObject : Tree → Outcome
-ofObject t = cond (onlySpreads t) (staysIf (flaggedChild t)) Object
+ofObject t = cond (onlySpreads t) (staysIf (flaggedChild t)) (Rewritten Object)
 
 -- "kept if decorated, .. Else extracted"
 abbrev pub ofClass : Tree → Outcome
@@ -52,11 +53,11 @@ chosen Handler.this s t = staysIf (derived s)
 chosen Handler.voidOrNot s t = Unwrapped
 chosen Handler.typeof s t = ofTypeof t
 chosen Handler.otherUnary s t = staysIf (flagged t)
-chosen Handler.sequence s t = Sequence
-chosen Handler.array s t = Array
+chosen Handler.sequence s t = Rewritten Sequence
+chosen Handler.array s t = Rewritten Array
 chosen Handler.template s t = ofTemplate t
 chosen Handler.object s t = ofObject t
-chosen Handler.comparison s t = Comparison
+chosen Handler.comparison s t = Rewritten Comparison
 chosen Handler.addition s t = ofAddition t
 chosen Handler.otherBinary s t = staysIf (flagged t)
 chosen Handler.call s t = ofCall s t
@@ -77,7 +78,7 @@ ofUnary t =
 
 -- "binary (sub 1 comparison, one of the Rust's eight; 2 addition; 3 other)"
 abbrev pub ofBinary : Tree → Outcome
-ofBinary t = cond (eqb (t .head .sub) 1) Comparison (cond (eqb (t .head .sub) 2) (ofAddition t) (staysIf (flagged t)))
+ofBinary t = cond (eqb (t .head .sub) 1) (Rewritten Comparison) (cond (eqb (t .head .sub) 2) (ofAddition t) (staysIf (flagged t)))
 
 -- o is what c chooses for the tree that stands at record i.
 pub record Chooses (b : List ℕ) (i : ℕ) (c : Tree → Outcome) (o : Outcome) : Type 0 where

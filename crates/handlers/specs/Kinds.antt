@@ -17,7 +17,8 @@ use Rattle.rules.specs.Handler.{Handler, handler, unaryHandler, binaryHandler}
 use Rattle.rules.specs.Facts.{flagged}
 use Rattle.rules.specs.Proofs.Lists.{by-cond}
 use Rattle.handlers.specs.declared.outcome.Outcome.{Outcome}
-use Rattle.handlers.specs.declared.outcome.Outcome.the-variants.{Removable, Unchanged, Unwrapped, Sequence, Array, Comparison}
+use Rattle.handlers.specs.declared.outcome.Outcome.the-variants.{Removable, Unchanged, Unwrapped, Rewritten}
+use Rattle.handlers.specs.declared.outcome.Rewrite.the-variants.{Sequence, Array, Comparison}
 use Rattle.handlers.specs.Outcome.{HandledAs, Handles}
 use Rattle.handlers.specs.Choice.{staysIf, chosen, always, ofTypeof, ofAddition, ofUnary, ofBinary, ofCall, ofNew, ofTemplate, ofObject, ofClass, Chooses}
 use Rattle.handlers.specs.Table.{Counted, handled}
@@ -51,9 +52,9 @@ module _ {b : List ℕ} {i : ℕ} (s : Settings) (k : ℕ) (ek : k ≡ headAt b 
   unfolding handler
   handles-this e w = plain Handler.this (λ t. tt) (λ t x. rw (x ∙ e)) w
 
-  pub handles-array : k ≡ kind.array → Handles b i s Array
+  pub handles-array : k ≡ kind.array → Handles b i s (Rewritten Array)
   unfolding handler
-  handles-array e = plain Handler.array (λ t. tt) (λ t x. rw (x ∙ e)) (always Array)
+  handles-array e = plain Handler.array (λ t. tt) (λ t x. rw (x ∙ e)) (always (Rewritten Array))
 
   pub handles-elision : k ≡ kind.elision → Handles b i s Removable
   unfolding handler
@@ -75,9 +76,9 @@ module _ {b : List ℕ} {i : ℕ} (s : Settings) (k : ℕ) (ek : k ≡ headAt b 
   unfolding handler
   handles-template e w = plain Handler.template (λ t. tt) (λ t x. rw (x ∙ e)) w
 
-  pub handles-sequence : k ≡ kind.sequence → Handles b i s Sequence
+  pub handles-sequence : k ≡ kind.sequence → Handles b i s (Rewritten Sequence)
   unfolding handler
-  handles-sequence e = plain Handler.sequence (λ t. tt) (λ t x. rw (x ∙ e)) (always Sequence)
+  handles-sequence e = plain Handler.sequence (λ t. tt) (λ t x. rw (x ∙ e)) (always (Rewritten Sequence))
 
   pub handles-unary : k ≡ kind.unary → {o : Outcome} → Chooses b i ofUnary o → Handles b i s o
   unfolding handler
@@ -113,7 +114,7 @@ module _ {b : List ℕ} {i : ℕ} (s : Settings) (k : ℕ) (ek : k ≡ headAt b 
       (λ t. same t (eqb (t .head .sub) 1) (eqb (t .head .sub) 2)) w
     where
       same : (t : Tree) (x y : Bool)
-          → cond x Comparison (cond y (ofAddition t) (staysIf (flagged t)))
+          → cond x (Rewritten Comparison) (cond y (ofAddition t) (staysIf (flagged t)))
           ≡ chosen (cond x Handler.comparison (cond y Handler.addition Handler.otherBinary)) s t
       same t true y = refl
       same t false true = refl

@@ -18,22 +18,28 @@ use Rattle.rules.specs.Reduce.{reduce, noneOneSeveral, staysWith, transformTemp
 use Rattle.rules.specs.Proofs.Unfold.{reduced}
 use Rattle.readings.specs.Node.{Node}
 use Rattle.handlers.specs.declared.outcome.Outcome.{Outcome}
-use Rattle.handlers.specs.declared.outcome.Outcome.the-variants.{Removable, Unchanged, Unwrapped, Sequence, Array, Template, Object, Comparison, Arguments, Addition, Class}
+use Rattle.handlers.specs.declared.outcome.Outcome.the-variants.{Removable, Unchanged, Unwrapped, Rewritten, Arguments, Addition, Class}
+use Rattle.handlers.specs.declared.outcome.Rewrite.{Rewrite}
+use Rattle.handlers.specs.declared.outcome.Rewrite.the-variants.{Sequence, Array, Template, Object, Comparison}
 
 -- "children reduced, removable ones dropped"
 abbrev pub childrenLeft : Settings → Tree → List Tree
 childrenLeft s t = concatMap (reduce s) (trees (t .kids))
 
+-- What a rewrite makes of the list of what is left of the children: each handler's own rule.
+abbrev pub rewritten : Rewrite → Settings → Tree → List Tree
+rewritten Sequence s t = staysWith t (childrenLeft s t)
+rewritten Array s t =
+    cond (any isSpread (childrenLeft s t)) (staysWith t (childrenLeft s t)) (noneOneSeveral (placeOf t) (childrenLeft s t))
+rewritten Template s t = noneOneSeveral (placeOf t) (transformTemplate (placeOf t) [] (map (reduced s) (trees (t .kids))))
+rewritten Object s t = noneOneSeveral (placeOf t) (transformObject (placeOf t) [] (map (reduced s) (trees (t .kids))))
+rewritten Comparison s t = joinKept (placeOf t) (childrenLeft s t)
+
 abbrev pub outcome : Outcome → Settings → Tree → List Tree
 outcome Removable s t = []
 outcome Unchanged s t = t ∷ []
 outcome Unwrapped s t = childrenLeft s t
-outcome Sequence s t = staysWith t (childrenLeft s t)
-outcome Array s t =
-    cond (any isSpread (childrenLeft s t)) (staysWith t (childrenLeft s t)) (noneOneSeveral (placeOf t) (childrenLeft s t))
-outcome Template s t = noneOneSeveral (placeOf t) (transformTemplate (placeOf t) [] (map (reduced s) (trees (t .kids))))
-outcome Object s t = noneOneSeveral (placeOf t) (transformObject (placeOf t) [] (map (reduced s) (trees (t .kids))))
-outcome Comparison s t = joinKept (placeOf t) (childrenLeft s t)
+outcome (Rewritten r) s t = rewritten r s t
 outcome Arguments s t = noneOneSeveral (placeOf t) (foldArgumentsIntoNeededExpressions (map (reduced s) (drop 1 (trees (t .kids)))))
 outcome Addition s t = keepIf (not (isLiteral (foldStringAdditionChain t))) (foldStringAdditionChain t)
 outcome Class s t = sequenceIfAny (placeOf t) (extracted t)
@@ -43,11 +49,7 @@ abbrev pub HasChildren : Outcome → Tree → Type 0
 HasChildren Removable t = Unit {0}
 HasChildren Unchanged t = Unit {0}
 HasChildren Unwrapped t = Unit {0}
-HasChildren Sequence t = Unit {0}
-HasChildren Array t = Unit {0}
-HasChildren Template t = Unit {0}
-HasChildren Object t = Unit {0}
-HasChildren Comparison t = Unit {0}
+HasChildren (Rewritten r) t = Unit {0}
 HasChildren Arguments t = 1 ≤ count (t .kids)
 HasChildren Addition t = (t .head .kind ≡ kind.binary) × (t .head .sub ≡ 2) × (count (t .kids) ≡ 2)
 HasChildren Class t = (t .head .kind ≡ kind.class) × (children.heritage (t .head) ≤ count (t .kids))

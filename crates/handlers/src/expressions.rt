@@ -1,6 +1,7 @@
 // The handlers whose outcome hangs on more than a node's kind, by the Rust's names.
 use crate::outcome;
 use crate::outcome::Outcome;
+use crate::outcome::Rewrite;
 ghost use Rattle.readings.specs.Node.{SomeNode, settingsWith};
 ghost use Rattle.handlers.specs.Choice.{Chooses, ofUnary, ofBinary, ofCall, ofNew, ofTemplate, ofObject, ofClass};
 
@@ -30,7 +31,7 @@ pub fn remove_unused_binary_expr(src: &[u8], at: usize) -> Outcome
 {
     let sub = fields::sub_at(src, at);
     if sub == 1 {
-        return Outcome::Comparison;
+        return Outcome::Rewritten(Rewrite::Comparison);
     }
     if sub == 2 {
         if readings::flagged_at(src, at) {
@@ -68,7 +69,7 @@ pub fn remove_unused_template_literal(src: &[u8], at: usize) -> Outcome
     if readings::unchanged_template(src, at) {
         return Outcome::Unchanged;
     }
-    Outcome::Template
+    Outcome::Rewritten(Rewrite::Template)
 }
 
 pub fn remove_unused_object_expr(src: &[u8], at: usize) -> Outcome
@@ -78,7 +79,7 @@ pub fn remove_unused_object_expr(src: &[u8], at: usize) -> Outcome
     if readings::only_spreads(src, at) {
         return outcome::stays_if(readings::flagged_child(src, at));
     }
-    Outcome::Object
+    Outcome::Rewritten(Rewrite::Object)
 }
 
 pub fn remove_unused_class_expr(src: &[u8], at: usize) -> Outcome

@@ -1,5 +1,6 @@
 // What becomes of a node, by its kind, its facts and the settings: the handlers of `remove_unused_expression`.
 use crate::outcome::Outcome;
+use crate::outcome::Rewrite;
 use fields::kind;
 ghost use Rattle.readings.specs.Node.{SomeNode, settingsWith};
 ghost use Rattle.handlers.specs.Outcome.{Handles};
@@ -20,13 +21,13 @@ pub fn handle(src: &[u8], at: usize, settings: u8) -> Outcome
     }
     match kind {
         kind::THIS => outcome::stays_if(settings / 4 % 2 == 1),
-        kind::ARRAY => Outcome::Array,
+        kind::ARRAY => Outcome::Rewritten(Rewrite::Array),
         kind::ELISION => Outcome::Removable,
         kind::SPREAD => outcome::stays_if(readings::flagged_at(src, at)),
         kind::OBJECT => expressions::remove_unused_object_expr(src, at),
         kind::PROPERTY => Outcome::Unwrapped,
         kind::TEMPLATE => expressions::remove_unused_template_literal(src, at),
-        kind::SEQUENCE => Outcome::Sequence,
+        kind::SEQUENCE => Outcome::Rewritten(Rewrite::Sequence),
         kind::UNARY => expressions::remove_unused_unary_expr(src, at),
         kind::BINARY => expressions::remove_unused_binary_expr(src, at),
         kind::CALL => expressions::remove_unused_call_expr(src, at, settings),

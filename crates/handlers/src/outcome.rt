@@ -2,16 +2,21 @@
 ghost use mathlib.Core.Path.{_≡_};
 ghost use Rattle.handlers.specs.Choice.{staysIf};
 
-pub enum Outcome {
-    Removable,
-    Unchanged,
-    // what is left of its children takes its place
-    Unwrapped,
+// What is made of the list of what is left of a node's children.
+pub enum Rewrite {
     Sequence,
     Array,
     Template,
     Object,
     Comparison,
+}
+
+pub enum Outcome {
+    Removable,
+    Unchanged,
+    // what is left of its children takes its place
+    Unwrapped,
+    Rewritten(Rewrite),
     // of a pure call or new
     Arguments,
     // of a flagged addition

@@ -1,5 +1,5 @@
 -- The walk over a list of children.
-use mathlib.Core.Path.{_≡_, refl, sym, _∙_}
+use mathlib.Core.Path.{_≡_, refl, subst, _∙_}
 use mathlib.Core.List.{List, [], _∷_}
 use Prim.Native.Nat.{ℕ, _+_, _*_, _-_, _<_, _≤_}
 use native.Mathlib.Omega.{arith}
@@ -136,3 +136,9 @@ module _ {s : List ℕ} {at size depth : ℕ} {st : Settings} {part : Part} {old
                 waits = d .waiting;
                 whole = λ new b c v. w .whole new b c (rest-whole new b c (rw (← y) at v));
               }
+
+-- The same walk, by the part that was asked for.
+pub walked-as : {s : List ℕ} {at size depth : ℕ} {st : Settings} {part : Part} (q : Part) {old new : List ℕ} {slot next slot′ next′ : ℕ} → part ≡ q
+    → ReducedChildren s at size depth st part old new slot next slot′ next′ → ReducedChildren s at size depth st q old new slot next slot′ next′
+walked-as {s} {at} {size} {depth} {st} q {old} {new} {slot} {next} {slot′} {next′} e w =
+    subst (λ (x : Part). ReducedChildren s at size depth st x old new slot next slot′ next′) e w

@@ -87,83 +87,17 @@ pub fn remove_unused_expression(
             let left = reduce_children(src, first, rest, Part::InOrder, below, settings, out, pos);
             left.next
         }
-        Outcome::Sequence => {
-            let left = reduce_children(
-                src,
-                first,
-                rest,
-                Part::InOrder,
-                below,
-                settings,
-                out,
-                pos + 1,
-            );
-            rewrite::remove_unused_sequence_expr(src, at, out, pos, left.next)
-        }
-        Outcome::Array => {
-            let left = reduce_children(
-                src,
-                first,
-                rest,
-                Part::InOrder,
-                below,
-                settings,
-                out,
-                pos + 1,
-            );
-            rewrite::remove_unused_array_expr(src, at, out, pos, left.next)
-        }
-        Outcome::Template => {
-            let left = reduce_children(
-                src,
-                first,
-                rest,
-                Part::Template,
-                below,
-                settings,
-                out,
-                pos + 1,
-            );
-            close::close_template(src, at, out, pos, left.slot, left.next)
-        }
-        Outcome::Object => {
-            let left = reduce_children(
-                src,
-                first,
-                rest,
-                Part::Object,
-                below,
-                settings,
-                out,
-                pos + 1,
-            );
-            close::close_object(src, at, out, pos, left.slot, left.next)
-        }
-        Outcome::Comparison => {
-            let left = reduce_children(
-                src,
-                first,
-                rest,
-                Part::InOrder,
-                below,
-                settings,
-                out,
-                pos + 1,
-            );
-            rewrite::join_kept(src, at, out, pos, left.next)
+        Outcome::Rewritten(rewrite) => {
+            let part = walk::part_of(rewrite);
+            let left = reduce_children(src, first, rest, part, below, settings, out, pos + 1);
+            close::close_list(src, at, rewrite, out, pos, left.slot, left.next)
         }
         Outcome::Arguments => {
             let callee = readings::first_size(src, at, 1);
-            let left = reduce_children(
-                src,
-                first + callee,
-                rest - callee,
-                Part::Argument,
-                below,
-                settings,
-                out,
-                pos + 1,
-            );
+            let from = first + callee;
+            let size = rest - callee;
+            let part = Part::Argument;
+            let left = reduce_children(src, from, size, part, below, settings, out, pos + 1);
             rewrite::none_one_several(src, at, out, pos, left.next)
         }
         Outcome::Addition => addition::remove_unused_addition(src, at, size, out, pos),

@@ -1,13 +1,14 @@
+use Rattle.handlers.specs.declared.outcome.Outcome.the-variants.{Removable, Unchanged, Unwrapped, Rewritten, Arguments, Addition, Class}
+use Rattle.reduce.specs.Walked.{partOf}
+use Rattle.reduce.specs.Children.{Walking, walk-start, walk-done, walk-subtree, child-some, child-within, child-given, walk-on, walked-as}
+use Rattle.reduce.specs.Expression.{as-outcome, given-copy, inner-given, outer-given, whole-given, removable-done, unchanged-done, unwrapped-done, walked-given, rewritten-done, callee-first, callee-within, arguments-given, arguments-list, arguments-done, addition-done, class-given, class-done}
 use native.Mathlib.Omega.{arith}
 use Prim.Native.Nat.{_+_, _*_, _-_}
 use borrow.Author.Needs.{needs}
-use Rattle.handlers.specs.declared.outcome.Outcome.the-variants.{Removable, Unchanged, Unwrapped, Sequence, Array, Template, Object, Comparison, Arguments, Addition, Class}
 use Rattle.readings.specs.Node.{settingsWith}
 use Rattle.readings.specs.Split.{some-size, some-depth}
 use Rattle.reduce.specs.Given.{given-node, given-inside}
-use Rattle.reduce.specs.Children.{Walking, walk-start, walk-done, walk-subtree, child-some, child-within, child-given, walk-on}
 use Rattle.reduce.specs.Child.{child-inside, child-node, child-fits, child-small, child-tree, child-held, wrapped-given, child-wrapped, reduced-given, child-reduced}
-use Rattle.reduce.specs.Expression.{as-outcome, given-copy, inner-given, outer-given, whole-given, removable-done, unchanged-done, unwrapped-done, in-order-list, sequence-done, array-done, comparison-done, walked-given, template-done, object-done, callee-first, callee-within, arguments-given, arguments-list, arguments-done, addition-done, class-given, class-done}
 use Prim.Native.Nat.{ℕ, _<_}
 use borrow.Fn.Kinds.{In}
 use borrow.Fn.PlainCycle.{Measures, is, falls, and}
@@ -26,15 +27,12 @@ use Rattle.fields.proofs.subtree_at.Reads as subtree-at-reads
 use Rattle.handlers.proofs.handle.Reads as handle-reads
 use Rattle.output.proofs.copy_tree.Reads as copy-tree-reads
 use Rattle.readings.proofs.first_size.Reads as first-size-reads
-use Rattle.reduce.proofs.close.close_object.Reads as close-object-reads
-use Rattle.reduce.proofs.close.close_template.Reads as close-template-reads
+use Rattle.reduce.proofs.close.close_list.Reads as close-list-reads
+use Rattle.reduce.proofs.walk.part_of.Reads as part-of-reads
 use Rattle.reduce.proofs.walk.settle.Reads as settle-reads
 use Rattle.reduce.proofs.walk.waits_at.Reads as waits-at-reads
 use Rattle.reduce.proofs.walk.wraps_at.Reads as wraps-at-reads
 use Rattle.rewrite.proofs.none_one_several.Reads as none-one-several-reads
-use Rattle.rewrite.proofs.remove_unused_array_expr.Reads as remove-unused-array-expr-reads
-use Rattle.rewrite.proofs.remove_unused_sequence_expr.Reads as remove-unused-sequence-expr-reads
-use Rattle.rewrite.proofs.join_kept.Reads as join-kept-reads
 use Rattle.rewrite.proofs.hold.Reads as hold-reads
 use Rattle.rewrite.proofs.wrap_spread.Reads as wrap-spread-reads
 use Rattle.reduce.proofs.expression.+reduce_child+reduce_children+remove_unused_expression.{
@@ -104,7 +102,7 @@ abbrev reduce-children-calls : ℕ → reduce-children-lts.Claims
 reduce-children-calls t = (subtree-at-reads.Asked, subtree-at-reads.Learnt, reduce-child-below t, reduce-child.Post)
 
 abbrev remove-unused-expression-calls : ℕ → remove-unused-expression-lts.Claims
-remove-unused-expression-calls t = (handle-reads.Asked, handle-reads.Learnt, copy-tree-reads.Asked, copy-tree-reads.Learnt, reduce-children-below t, reduce-children.Post, remove-unused-sequence-expr-reads.Asked, remove-unused-sequence-expr-reads.Learnt, remove-unused-array-expr-reads.Asked, remove-unused-array-expr-reads.Learnt, close-template-reads.Asked, close-template-reads.Learnt, close-object-reads.Asked, close-object-reads.Learnt, join-kept-reads.Asked, join-kept-reads.Learnt, first-size-reads.Asked, first-size-reads.Learnt, none-one-several-reads.Asked, none-one-several-reads.Learnt, remove-unused-addition-reads.Asked, remove-unused-addition-reads.Learnt, remove-unused-class-reads.Asked, remove-unused-class-reads.Learnt)
+remove-unused-expression-calls t = (handle-reads.Asked, handle-reads.Learnt, copy-tree-reads.Asked, copy-tree-reads.Learnt, reduce-children-below t, reduce-children.Post, part-of-reads.Asked, part-of-reads.Learnt, close-list-reads.Asked, close-list-reads.Learnt, first-size-reads.Asked, first-size-reads.Learnt, none-one-several-reads.Asked, none-one-several-reads.Learnt, remove-unused-addition-reads.Asked, remove-unused-addition-reads.Learnt, remove-unused-class-reads.Asked, remove-unused-class-reads.Learnt)
 
 reduce-child-waits-at-requires : (t : ℕ) → reduce-child-lts.Need-waits-at-requires (reduce-child-calls t) (reduce-child-at t) reduce-child.Post
 reduce-child-waits-at-requires t c κs = child-inside (c .before .before .pre .1)
@@ -206,98 +204,53 @@ remove-unused-expression-enum-told-3 t c = search needs
 remove-unused-expression-reduce-children-requires : (t : ℕ) → remove-unused-expression-lts.Need-reduce-children-requires (remove-unused-expression-calls t) (remove-unused-expression-at t) remove-unused-expression.Post
 remove-unused-expression-reduce-children-requires t c κs = (omega (arith, c .before .before .before .before .before .before .pre .0, c .before .before .before .before .before .before .pre .1 .input .small, some-depth (c .before .before .before .before .before .before .pre .1 .input), some-size (c .before .before .before .before .before .before .pre .1 .input)), outer-given (c .before .before .before .before .before .before .pre .1))
 
+remove-unused-expression-enum-known-outcome : (t : ℕ) → remove-unused-expression-lts.Need-enum-known-outcome (remove-unused-expression-calls t) (remove-unused-expression-at t) remove-unused-expression.Post
+remove-unused-expression-enum-known-outcome t c = search needs
+
+remove-unused-expression-part-of-requires : (t : ℕ) → remove-unused-expression-lts.Need-part-of-requires (remove-unused-expression-calls t) (remove-unused-expression-at t) remove-unused-expression.Post
+remove-unused-expression-part-of-requires t c κs = search needs
+
+remove-unused-expression-add-reduce-children : (t : ℕ) → remove-unused-expression-lts.Need-add-reduce-children (remove-unused-expression-calls t) (remove-unused-expression-at t) remove-unused-expression.Post
+remove-unused-expression-add-reduce-children t c = omega (arith, c .before .before .before .before .before .before .before .before .pre .1 .fits, some-size (c .before .before .before .before .before .before .before .before .pre .1 .input))
+
+remove-unused-expression-reduce-children-requires-2 : (t : ℕ) → remove-unused-expression-lts.Need-reduce-children-requires-2 (remove-unused-expression-calls t) (remove-unused-expression-at t) remove-unused-expression.Post
+remove-unused-expression-reduce-children-requires-2 t c κs = (omega (arith, c .before .before .before .before .before .before .before .before .pre .0, c .before .before .before .before .before .before .before .before .pre .1 .input .small, some-depth (c .before .before .before .before .before .before .before .before .pre .1 .input), some-size (c .before .before .before .before .before .before .before .before .pre .1 .input)), inner-given (c .before .before .before .before .before .before .before .before .pre .1))
+
+remove-unused-expression-close-list-requires : (t : ℕ) → remove-unused-expression-lts.Need-close-list-requires (remove-unused-expression-calls t) (remove-unused-expression-at t) remove-unused-expression.Post
+remove-unused-expression-close-list-requires t c κs = walked-given _ (walked-as (partOf (c .before .before .before .before .before .before .before .outcome .given .0 .0)) (c .before .before .before .before .before .part-of .ensures) (c .before .before .before .reduce-children2 .ensures)) (c .before .before .before .before .before .before .before .before .before .before .before .before .pre .1) (c .before .before .before .reduce-children2 .kept .1 .1 .1 .1 .1 .1 .0)
+
 remove-unused-expression-enum-told-4 : (t : ℕ) → remove-unused-expression-lts.Need-enum-told-4 (remove-unused-expression-calls t) (remove-unused-expression-at t) remove-unused-expression.Post
 remove-unused-expression-enum-told-4 t c = search needs
 
-remove-unused-expression-add-reduce-children : (t : ℕ) → remove-unused-expression-lts.Need-add-reduce-children (remove-unused-expression-calls t) (remove-unused-expression-at t) remove-unused-expression.Post
-remove-unused-expression-add-reduce-children t c = omega (arith, c .before .before .before .before .before .before .pre .1 .fits, some-size (c .before .before .before .before .before .before .pre .1 .input))
+remove-unused-expression-first-size-requires : (t : ℕ) → remove-unused-expression-lts.Need-first-size-requires (remove-unused-expression-calls t) (remove-unused-expression-at t) remove-unused-expression.Post
+remove-unused-expression-first-size-requires t c κs = callee-first (as-outcome Arguments (c .enum-told4 .given .1) (c .before .before .handle .ensures)) (c .before .before .before .before .before .pre .1)
 
-remove-unused-expression-reduce-children-requires-2 : (t : ℕ) → remove-unused-expression-lts.Need-reduce-children-requires-2 (remove-unused-expression-calls t) (remove-unused-expression-at t) remove-unused-expression.Post
-remove-unused-expression-reduce-children-requires-2 t c κs = (omega (arith, c .before .before .before .before .before .before .pre .0, c .before .before .before .before .before .before .pre .1 .input .small, some-depth (c .before .before .before .before .before .before .pre .1 .input), some-size (c .before .before .before .before .before .before .pre .1 .input)), inner-given (c .before .before .before .before .before .before .pre .1))
+remove-unused-expression-add-from : (t : ℕ) → remove-unused-expression-lts.Need-add-from (remove-unused-expression-calls t) (remove-unused-expression-at t) remove-unused-expression.Post
+remove-unused-expression-add-from t c = omega (arith, callee-within (as-outcome Arguments (c .before .enum-told4 .given .1) (c .before .before .before .handle .ensures)) _ (c .first-size .ensures) (c .before .before .before .before .before .before .pre .1), c .before .before .before .before .before .before .pre .1 .input .inside, some-size (c .before .before .before .before .before .before .pre .1 .input))
 
-remove-unused-expression-remove-unused-sequence-expr-requires : (t : ℕ) → remove-unused-expression-lts.Need-remove-unused-sequence-expr-requires (remove-unused-expression-calls t) (remove-unused-expression-at t) remove-unused-expression.Post
-remove-unused-expression-remove-unused-sequence-expr-requires t c κs = in-order-list (c .before .before .before .reduce-children2 .ensures) (c .before .before .before .before .before .before .before .before .before .before .pre .1) (c .before .before .before .reduce-children2 .kept .1 .1 .1 .1 .1 .1 .0)
+remove-unused-expression-sub-size : (t : ℕ) → remove-unused-expression-lts.Need-sub-size (remove-unused-expression-calls t) (remove-unused-expression-at t) remove-unused-expression.Post
+remove-unused-expression-sub-size t c = omega (arith, callee-within (as-outcome Arguments (c .before .enum-told4 .given .1) (c .before .before .before .handle .ensures)) _ (c .first-size .ensures) (c .before .before .before .before .before .before .pre .1))
+
+remove-unused-expression-add-reduce-children-2 : (t : ℕ) → remove-unused-expression-lts.Need-add-reduce-children-2 (remove-unused-expression-calls t) (remove-unused-expression-at t) remove-unused-expression.Post
+remove-unused-expression-add-reduce-children-2 t c = omega (arith, c .before .before .before .before .before .before .before .pre .1 .fits, some-size (c .before .before .before .before .before .before .before .pre .1 .input))
+
+remove-unused-expression-reduce-children-requires-3 : (t : ℕ) → remove-unused-expression-lts.Need-reduce-children-requires-3 (remove-unused-expression-calls t) (remove-unused-expression-at t) remove-unused-expression.Post
+remove-unused-expression-reduce-children-requires-3 t c κs = (omega (arith, c .before .before .before .before .before .before .before .pre .0, c .before .before .before .before .before .before .before .pre .1 .input .small, some-depth (c .before .before .before .before .before .before .before .pre .1 .input), some-size (c .before .before .before .before .before .before .before .pre .1 .input)), arguments-given (as-outcome Arguments (c .before .before .enum-told4 .given .1) (c .before .before .before .before .handle .ensures)) _ (c .before .first-size .ensures) (c .before .before .before .before .before .before .before .pre .1))
+
+remove-unused-expression-none-one-several-requires : (t : ℕ) → remove-unused-expression-lts.Need-none-one-several-requires (remove-unused-expression-calls t) (remove-unused-expression-at t) remove-unused-expression.Post
+remove-unused-expression-none-one-several-requires t c κs = arguments-list (as-outcome Arguments (c .before .before .before .before .before .before .enum-told4 .given .1) (c .before .before .before .before .before .before .before .before .handle .ensures)) _ (c .before .before .before .before .before .first-size .ensures) (c .before .before .before .reduce-children3 .ensures) (c .before .before .before .before .before .before .before .before .before .before .before .pre .1) (c .before .before .before .reduce-children3 .kept .1 .1 .1 .1 .1 .1 .0)
 
 remove-unused-expression-enum-told-5 : (t : ℕ) → remove-unused-expression-lts.Need-enum-told-5 (remove-unused-expression-calls t) (remove-unused-expression-at t) remove-unused-expression.Post
 remove-unused-expression-enum-told-5 t c = search needs
 
-remove-unused-expression-add-reduce-children-2 : (t : ℕ) → remove-unused-expression-lts.Need-add-reduce-children-2 (remove-unused-expression-calls t) (remove-unused-expression-at t) remove-unused-expression.Post
-remove-unused-expression-add-reduce-children-2 t c = omega (arith, c .before .before .before .before .before .before .pre .1 .fits, some-size (c .before .before .before .before .before .before .pre .1 .input))
-
-remove-unused-expression-reduce-children-requires-3 : (t : ℕ) → remove-unused-expression-lts.Need-reduce-children-requires-3 (remove-unused-expression-calls t) (remove-unused-expression-at t) remove-unused-expression.Post
-remove-unused-expression-reduce-children-requires-3 t c κs = (omega (arith, c .before .before .before .before .before .before .pre .0, c .before .before .before .before .before .before .pre .1 .input .small, some-depth (c .before .before .before .before .before .before .pre .1 .input), some-size (c .before .before .before .before .before .before .pre .1 .input)), inner-given (c .before .before .before .before .before .before .pre .1))
-
-remove-unused-expression-remove-unused-array-expr-requires : (t : ℕ) → remove-unused-expression-lts.Need-remove-unused-array-expr-requires (remove-unused-expression-calls t) (remove-unused-expression-at t) remove-unused-expression.Post
-remove-unused-expression-remove-unused-array-expr-requires t c κs = in-order-list (c .before .before .before .reduce-children3 .ensures) (c .before .before .before .before .before .before .before .before .before .before .pre .1) (c .before .before .before .reduce-children3 .kept .1 .1 .1 .1 .1 .1 .0)
+remove-unused-expression-remove-unused-addition-requires : (t : ℕ) → remove-unused-expression-lts.Need-remove-unused-addition-requires (remove-unused-expression-calls t) (remove-unused-expression-at t) remove-unused-expression.Post
+remove-unused-expression-remove-unused-addition-requires t c κs = whole-given (c .before .before .before .before .before .before .pre .1)
 
 remove-unused-expression-enum-told-6 : (t : ℕ) → remove-unused-expression-lts.Need-enum-told-6 (remove-unused-expression-calls t) (remove-unused-expression-at t) remove-unused-expression.Post
 remove-unused-expression-enum-told-6 t c = search needs
 
-remove-unused-expression-add-reduce-children-3 : (t : ℕ) → remove-unused-expression-lts.Need-add-reduce-children-3 (remove-unused-expression-calls t) (remove-unused-expression-at t) remove-unused-expression.Post
-remove-unused-expression-add-reduce-children-3 t c = omega (arith, c .before .before .before .before .before .before .pre .1 .fits, some-size (c .before .before .before .before .before .before .pre .1 .input))
-
-remove-unused-expression-reduce-children-requires-4 : (t : ℕ) → remove-unused-expression-lts.Need-reduce-children-requires-4 (remove-unused-expression-calls t) (remove-unused-expression-at t) remove-unused-expression.Post
-remove-unused-expression-reduce-children-requires-4 t c κs = (omega (arith, c .before .before .before .before .before .before .pre .0, c .before .before .before .before .before .before .pre .1 .input .small, some-depth (c .before .before .before .before .before .before .pre .1 .input), some-size (c .before .before .before .before .before .before .pre .1 .input)), inner-given (c .before .before .before .before .before .before .pre .1))
-
-remove-unused-expression-close-template-requires : (t : ℕ) → remove-unused-expression-lts.Need-close-template-requires (remove-unused-expression-calls t) (remove-unused-expression-at t) remove-unused-expression.Post
-remove-unused-expression-close-template-requires t c κs = walked-given (c .before .before .before .reduce-children4 .ensures) (c .before .before .before .before .before .before .before .before .before .before .pre .1) (c .before .before .before .reduce-children4 .kept .1 .1 .1 .1 .1 .1 .0)
-
-remove-unused-expression-enum-told-7 : (t : ℕ) → remove-unused-expression-lts.Need-enum-told-7 (remove-unused-expression-calls t) (remove-unused-expression-at t) remove-unused-expression.Post
-remove-unused-expression-enum-told-7 t c = search needs
-
-remove-unused-expression-add-reduce-children-4 : (t : ℕ) → remove-unused-expression-lts.Need-add-reduce-children-4 (remove-unused-expression-calls t) (remove-unused-expression-at t) remove-unused-expression.Post
-remove-unused-expression-add-reduce-children-4 t c = omega (arith, c .before .before .before .before .before .before .pre .1 .fits, some-size (c .before .before .before .before .before .before .pre .1 .input))
-
-remove-unused-expression-reduce-children-requires-5 : (t : ℕ) → remove-unused-expression-lts.Need-reduce-children-requires-5 (remove-unused-expression-calls t) (remove-unused-expression-at t) remove-unused-expression.Post
-remove-unused-expression-reduce-children-requires-5 t c κs = (omega (arith, c .before .before .before .before .before .before .pre .0, c .before .before .before .before .before .before .pre .1 .input .small, some-depth (c .before .before .before .before .before .before .pre .1 .input), some-size (c .before .before .before .before .before .before .pre .1 .input)), inner-given (c .before .before .before .before .before .before .pre .1))
-
-remove-unused-expression-close-object-requires : (t : ℕ) → remove-unused-expression-lts.Need-close-object-requires (remove-unused-expression-calls t) (remove-unused-expression-at t) remove-unused-expression.Post
-remove-unused-expression-close-object-requires t c κs = walked-given (c .before .before .before .reduce-children5 .ensures) (c .before .before .before .before .before .before .before .before .before .before .pre .1) (c .before .before .before .reduce-children5 .kept .1 .1 .1 .1 .1 .1 .0)
-
-remove-unused-expression-enum-told-8 : (t : ℕ) → remove-unused-expression-lts.Need-enum-told-8 (remove-unused-expression-calls t) (remove-unused-expression-at t) remove-unused-expression.Post
-remove-unused-expression-enum-told-8 t c = search needs
-
-remove-unused-expression-add-reduce-children-5 : (t : ℕ) → remove-unused-expression-lts.Need-add-reduce-children-5 (remove-unused-expression-calls t) (remove-unused-expression-at t) remove-unused-expression.Post
-remove-unused-expression-add-reduce-children-5 t c = omega (arith, c .before .before .before .before .before .before .pre .1 .fits, some-size (c .before .before .before .before .before .before .pre .1 .input))
-
-remove-unused-expression-reduce-children-requires-6 : (t : ℕ) → remove-unused-expression-lts.Need-reduce-children-requires-6 (remove-unused-expression-calls t) (remove-unused-expression-at t) remove-unused-expression.Post
-remove-unused-expression-reduce-children-requires-6 t c κs = (omega (arith, c .before .before .before .before .before .before .pre .0, c .before .before .before .before .before .before .pre .1 .input .small, some-depth (c .before .before .before .before .before .before .pre .1 .input), some-size (c .before .before .before .before .before .before .pre .1 .input)), inner-given (c .before .before .before .before .before .before .pre .1))
-
-remove-unused-expression-join-kept-requires : (t : ℕ) → remove-unused-expression-lts.Need-join-kept-requires (remove-unused-expression-calls t) (remove-unused-expression-at t) remove-unused-expression.Post
-remove-unused-expression-join-kept-requires t c κs = in-order-list (c .before .before .before .reduce-children6 .ensures) (c .before .before .before .before .before .before .before .before .before .before .pre .1) (c .before .before .before .reduce-children6 .kept .1 .1 .1 .1 .1 .1 .0)
-
-remove-unused-expression-enum-told-9 : (t : ℕ) → remove-unused-expression-lts.Need-enum-told-9 (remove-unused-expression-calls t) (remove-unused-expression-at t) remove-unused-expression.Post
-remove-unused-expression-enum-told-9 t c = search needs
-
-remove-unused-expression-first-size-requires : (t : ℕ) → remove-unused-expression-lts.Need-first-size-requires (remove-unused-expression-calls t) (remove-unused-expression-at t) remove-unused-expression.Post
-remove-unused-expression-first-size-requires t c κs = callee-first (as-outcome Arguments (c .enum-told9 .given .1) (c .before .before .handle .ensures)) (c .before .before .before .before .before .pre .1)
-
-remove-unused-expression-add-reduce-children-6 : (t : ℕ) → remove-unused-expression-lts.Need-add-reduce-children-6 (remove-unused-expression-calls t) (remove-unused-expression-at t) remove-unused-expression.Post
-remove-unused-expression-add-reduce-children-6 t c = omega (arith, callee-within (as-outcome Arguments (c .before .enum-told9 .given .1) (c .before .before .before .handle .ensures)) _ (c .first-size .ensures) (c .before .before .before .before .before .before .pre .1), c .before .before .before .before .before .before .pre .1 .input .inside, some-size (c .before .before .before .before .before .before .pre .1 .input))
-
-remove-unused-expression-sub-reduce-children : (t : ℕ) → remove-unused-expression-lts.Need-sub-reduce-children (remove-unused-expression-calls t) (remove-unused-expression-at t) remove-unused-expression.Post
-remove-unused-expression-sub-reduce-children t c = omega (arith, callee-within (as-outcome Arguments (c .before .enum-told9 .given .1) (c .before .before .before .handle .ensures)) _ (c .first-size .ensures) (c .before .before .before .before .before .before .pre .1))
-
-remove-unused-expression-add-reduce-children-7 : (t : ℕ) → remove-unused-expression-lts.Need-add-reduce-children-7 (remove-unused-expression-calls t) (remove-unused-expression-at t) remove-unused-expression.Post
-remove-unused-expression-add-reduce-children-7 t c = omega (arith, c .before .before .before .before .before .before .before .pre .1 .fits, some-size (c .before .before .before .before .before .before .before .pre .1 .input))
-
-remove-unused-expression-reduce-children-requires-7 : (t : ℕ) → remove-unused-expression-lts.Need-reduce-children-requires-7 (remove-unused-expression-calls t) (remove-unused-expression-at t) remove-unused-expression.Post
-remove-unused-expression-reduce-children-requires-7 t c κs = (omega (arith, c .before .before .before .before .before .before .before .pre .0, c .before .before .before .before .before .before .before .pre .1 .input .small, some-depth (c .before .before .before .before .before .before .before .pre .1 .input), some-size (c .before .before .before .before .before .before .before .pre .1 .input)), arguments-given (as-outcome Arguments (c .before .before .enum-told9 .given .1) (c .before .before .before .before .handle .ensures)) _ (c .before .first-size .ensures) (c .before .before .before .before .before .before .before .pre .1))
-
-remove-unused-expression-none-one-several-requires : (t : ℕ) → remove-unused-expression-lts.Need-none-one-several-requires (remove-unused-expression-calls t) (remove-unused-expression-at t) remove-unused-expression.Post
-remove-unused-expression-none-one-several-requires t c κs = arguments-list (as-outcome Arguments (c .before .before .before .before .before .before .enum-told9 .given .1) (c .before .before .before .before .before .before .before .before .handle .ensures)) _ (c .before .before .before .before .before .first-size .ensures) (c .before .before .before .reduce-children7 .ensures) (c .before .before .before .before .before .before .before .before .before .before .before .pre .1) (c .before .before .before .reduce-children7 .kept .1 .1 .1 .1 .1 .1 .0)
-
-remove-unused-expression-enum-told-10 : (t : ℕ) → remove-unused-expression-lts.Need-enum-told-10 (remove-unused-expression-calls t) (remove-unused-expression-at t) remove-unused-expression.Post
-remove-unused-expression-enum-told-10 t c = search needs
-
-remove-unused-expression-remove-unused-addition-requires : (t : ℕ) → remove-unused-expression-lts.Need-remove-unused-addition-requires (remove-unused-expression-calls t) (remove-unused-expression-at t) remove-unused-expression.Post
-remove-unused-expression-remove-unused-addition-requires t c κs = whole-given (c .before .before .before .before .before .before .pre .1)
-
-remove-unused-expression-enum-told-11 : (t : ℕ) → remove-unused-expression-lts.Need-enum-told-11 (remove-unused-expression-calls t) (remove-unused-expression-at t) remove-unused-expression.Post
-remove-unused-expression-enum-told-11 t c = search needs
-
 remove-unused-expression-remove-unused-class-requires : (t : ℕ) → remove-unused-expression-lts.Need-remove-unused-class-requires (remove-unused-expression-calls t) (remove-unused-expression-at t) remove-unused-expression.Post
-remove-unused-expression-remove-unused-class-requires t c κs = class-given (as-outcome Class (c .before .enum-told11 .given .1) (c .before .before .before .handle .ensures)) (c .before .before .before .before .before .before .pre .1)
+remove-unused-expression-remove-unused-class-requires t c κs = class-given (as-outcome Class (c .before .enum-told6 .given .1) (c .before .before .before .handle .ensures)) (c .before .before .before .before .before .before .pre .1)
 
 remove-unused-expression-returns : (t : ℕ) → remove-unused-expression-lts.Need-returns (remove-unused-expression-calls t) (remove-unused-expression-at t) remove-unused-expression.Post
 remove-unused-expression-returns t c = removable-done (as-outcome Removable (c .enum-told .given .1) (c .before .before .handle .ensures))
@@ -318,49 +271,25 @@ remove-unused-expression-same-length-3 : (t : ℕ) → remove-unused-expression-
 remove-unused-expression-same-length-3 t c = search needs
 
 remove-unused-expression-returns-4 : (t : ℕ) → remove-unused-expression-lts.Need-returns-4 (remove-unused-expression-calls t) (remove-unused-expression-at t) remove-unused-expression.Post
-remove-unused-expression-returns-4 t c = sequence-done (c .before .before .before .before .before .before .reduce-children2 .ensures) (as-outcome Sequence (c .before .before .before .before .before .before .before .before .enum-told4 .given .1) (c .before .before .before .before .before .before .before .before .before .before .handle .ensures)) (c .before .before .remove-unused-sequence-expr .ensures)
+remove-unused-expression-returns-4 t c = rewritten-done _ (walked-as (partOf (c .before .before .before .before .before .before .before .before .before .before .outcome .given .0 .0)) (c .before .before .before .before .before .before .before .before .part-of .ensures) (c .before .before .before .before .before .before .reduce-children2 .ensures)) (as-outcome (Rewritten (c .before .before .before .before .before .before .before .before .before .before .outcome .given .0 .0)) (c .before .before .before .before .before .before .before .before .before .before .outcome .given .1) (c .before .before .before .before .before .before .before .before .before .before .before .before .handle .ensures)) (c .before .before .close-list .ensures)
 
 remove-unused-expression-same-length-4 : (t : ℕ) → remove-unused-expression-lts.Need-same-length-4 (remove-unused-expression-calls t) (remove-unused-expression-at t) remove-unused-expression.Post
 remove-unused-expression-same-length-4 t c = search needs
 
 remove-unused-expression-returns-5 : (t : ℕ) → remove-unused-expression-lts.Need-returns-5 (remove-unused-expression-calls t) (remove-unused-expression-at t) remove-unused-expression.Post
-remove-unused-expression-returns-5 t c = array-done (c .before .before .before .before .before .before .reduce-children3 .ensures) (as-outcome Array (c .before .before .before .before .before .before .before .before .enum-told5 .given .1) (c .before .before .before .before .before .before .before .before .before .before .handle .ensures)) (c .before .before .remove-unused-array-expr .ensures)
+remove-unused-expression-returns-5 t c = arguments-done (as-outcome Arguments (c .before .before .before .before .before .before .before .before .before .enum-told4 .given .1) (c .before .before .before .before .before .before .before .before .before .before .before .handle .ensures)) _ (c .before .before .before .before .before .before .before .before .first-size .ensures) (c .before .before .before .before .before .before .reduce-children3 .ensures) (c .before .before .none-one-several .ensures)
 
 remove-unused-expression-same-length-5 : (t : ℕ) → remove-unused-expression-lts.Need-same-length-5 (remove-unused-expression-calls t) (remove-unused-expression-at t) remove-unused-expression.Post
 remove-unused-expression-same-length-5 t c = search needs
 
 remove-unused-expression-returns-6 : (t : ℕ) → remove-unused-expression-lts.Need-returns-6 (remove-unused-expression-calls t) (remove-unused-expression-at t) remove-unused-expression.Post
-remove-unused-expression-returns-6 t c = template-done (c .before .before .before .before .before .before .reduce-children4 .ensures) (as-outcome Template (c .before .before .before .before .before .before .before .before .enum-told6 .given .1) (c .before .before .before .before .before .before .before .before .before .before .handle .ensures)) (c .before .before .close-template .ensures)
+remove-unused-expression-returns-6 t c = addition-done (as-outcome Addition (c .before .before .before .before .enum-told5 .given .1) (c .before .before .before .before .before .before .handle .ensures)) (c .before .before .remove-unused-addition .ensures)
 
 remove-unused-expression-same-length-6 : (t : ℕ) → remove-unused-expression-lts.Need-same-length-6 (remove-unused-expression-calls t) (remove-unused-expression-at t) remove-unused-expression.Post
 remove-unused-expression-same-length-6 t c = search needs
 
 remove-unused-expression-returns-7 : (t : ℕ) → remove-unused-expression-lts.Need-returns-7 (remove-unused-expression-calls t) (remove-unused-expression-at t) remove-unused-expression.Post
-remove-unused-expression-returns-7 t c = object-done (c .before .before .before .before .before .before .reduce-children5 .ensures) (as-outcome Object (c .before .before .before .before .before .before .before .before .enum-told7 .given .1) (c .before .before .before .before .before .before .before .before .before .before .handle .ensures)) (c .before .before .close-object .ensures)
-
-remove-unused-expression-same-length-7 : (t : ℕ) → remove-unused-expression-lts.Need-same-length-7 (remove-unused-expression-calls t) (remove-unused-expression-at t) remove-unused-expression.Post
-remove-unused-expression-same-length-7 t c = search needs
-
-remove-unused-expression-returns-8 : (t : ℕ) → remove-unused-expression-lts.Need-returns-8 (remove-unused-expression-calls t) (remove-unused-expression-at t) remove-unused-expression.Post
-remove-unused-expression-returns-8 t c = comparison-done (c .before .before .before .before .before .before .reduce-children6 .ensures) (as-outcome Comparison (c .before .before .before .before .before .before .before .before .enum-told8 .given .1) (c .before .before .before .before .before .before .before .before .before .before .handle .ensures)) (c .before .before .join-kept .ensures)
-
-remove-unused-expression-same-length-8 : (t : ℕ) → remove-unused-expression-lts.Need-same-length-8 (remove-unused-expression-calls t) (remove-unused-expression-at t) remove-unused-expression.Post
-remove-unused-expression-same-length-8 t c = search needs
-
-remove-unused-expression-returns-9 : (t : ℕ) → remove-unused-expression-lts.Need-returns-9 (remove-unused-expression-calls t) (remove-unused-expression-at t) remove-unused-expression.Post
-remove-unused-expression-returns-9 t c = arguments-done (as-outcome Arguments (c .before .before .before .before .before .before .before .before .before .enum-told9 .given .1) (c .before .before .before .before .before .before .before .before .before .before .before .handle .ensures)) _ (c .before .before .before .before .before .before .before .before .first-size .ensures) (c .before .before .before .before .before .before .reduce-children7 .ensures) (c .before .before .none-one-several .ensures)
-
-remove-unused-expression-same-length-9 : (t : ℕ) → remove-unused-expression-lts.Need-same-length-9 (remove-unused-expression-calls t) (remove-unused-expression-at t) remove-unused-expression.Post
-remove-unused-expression-same-length-9 t c = search needs
-
-remove-unused-expression-returns-10 : (t : ℕ) → remove-unused-expression-lts.Need-returns-10 (remove-unused-expression-calls t) (remove-unused-expression-at t) remove-unused-expression.Post
-remove-unused-expression-returns-10 t c = addition-done (as-outcome Addition (c .before .before .before .before .enum-told10 .given .1) (c .before .before .before .before .before .before .handle .ensures)) (c .before .before .remove-unused-addition .ensures)
-
-remove-unused-expression-same-length-10 : (t : ℕ) → remove-unused-expression-lts.Need-same-length-10 (remove-unused-expression-calls t) (remove-unused-expression-at t) remove-unused-expression.Post
-remove-unused-expression-same-length-10 t c = search needs
-
-remove-unused-expression-returns-11 : (t : ℕ) → remove-unused-expression-lts.Need-returns-11 (remove-unused-expression-calls t) (remove-unused-expression-at t) remove-unused-expression.Post
-remove-unused-expression-returns-11 t c = class-done (as-outcome Class (c .before .before .before .before .enum-told11 .given .1) (c .before .before .before .before .before .before .handle .ensures)) (c .before .before .remove-unused-class .ensures)
+remove-unused-expression-returns-7 t c = class-done (as-outcome Class (c .before .before .before .before .enum-told6 .given .1) (c .before .before .before .before .before .before .handle .ensures)) (c .before .before .remove-unused-class .ensures)
 
 pub +reduce-child+reduce-children+remove-unused-expression-spec : {M : Type 1} → statement M
 +reduce-child+reduce-children+remove-unused-expression-spec =
@@ -406,36 +335,21 @@ pub +reduce-child+reduce-children+remove-unused-expression-spec : {M : Type 1} �
     (remove-unused-expression-copy-tree-requires t)
     (remove-unused-expression-enum-told-3 t)
     (remove-unused-expression-reduce-children-requires t)
-    (remove-unused-expression-enum-told-4 t)
+    (remove-unused-expression-enum-known-outcome t)
+    (remove-unused-expression-part-of-requires t)
     (remove-unused-expression-add-reduce-children t)
     (remove-unused-expression-reduce-children-requires-2 t)
-    (remove-unused-expression-remove-unused-sequence-expr-requires t)
-    (remove-unused-expression-enum-told-5 t)
+    (remove-unused-expression-close-list-requires t)
+    (remove-unused-expression-enum-told-4 t)
+    (remove-unused-expression-first-size-requires t)
+    (remove-unused-expression-add-from t)
+    (remove-unused-expression-sub-size t)
     (remove-unused-expression-add-reduce-children-2 t)
     (remove-unused-expression-reduce-children-requires-3 t)
-    (remove-unused-expression-remove-unused-array-expr-requires t)
-    (remove-unused-expression-enum-told-6 t)
-    (remove-unused-expression-add-reduce-children-3 t)
-    (remove-unused-expression-reduce-children-requires-4 t)
-    (remove-unused-expression-close-template-requires t)
-    (remove-unused-expression-enum-told-7 t)
-    (remove-unused-expression-add-reduce-children-4 t)
-    (remove-unused-expression-reduce-children-requires-5 t)
-    (remove-unused-expression-close-object-requires t)
-    (remove-unused-expression-enum-told-8 t)
-    (remove-unused-expression-add-reduce-children-5 t)
-    (remove-unused-expression-reduce-children-requires-6 t)
-    (remove-unused-expression-join-kept-requires t)
-    (remove-unused-expression-enum-told-9 t)
-    (remove-unused-expression-first-size-requires t)
-    (remove-unused-expression-add-reduce-children-6 t)
-    (remove-unused-expression-sub-reduce-children t)
-    (remove-unused-expression-add-reduce-children-7 t)
-    (remove-unused-expression-reduce-children-requires-7 t)
     (remove-unused-expression-none-one-several-requires t)
-    (remove-unused-expression-enum-told-10 t)
+    (remove-unused-expression-enum-told-5 t)
     (remove-unused-expression-remove-unused-addition-requires t)
-    (remove-unused-expression-enum-told-11 t)
+    (remove-unused-expression-enum-told-6 t)
     (remove-unused-expression-remove-unused-class-requires t)
     (remove-unused-expression-returns t)
     (remove-unused-expression-same-length t)
@@ -450,11 +364,3 @@ pub +reduce-child+reduce-children+remove-unused-expression-spec : {M : Type 1} �
     (remove-unused-expression-returns-6 t)
     (remove-unused-expression-same-length-6 t)
     (remove-unused-expression-returns-7 t)
-    (remove-unused-expression-same-length-7 t)
-    (remove-unused-expression-returns-8 t)
-    (remove-unused-expression-same-length-8 t)
-    (remove-unused-expression-returns-9 t)
-    (remove-unused-expression-same-length-9 t)
-    (remove-unused-expression-returns-10 t)
-    (remove-unused-expression-same-length-10 t)
-    (remove-unused-expression-returns-11 t)
