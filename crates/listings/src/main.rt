@@ -1,10 +1,11 @@
 // Lists the effects of each tree file of standard input. A file stands behind its length in two bytes.
 // Printed for a file: `count` and how many effects it has, then a line for each, place/kind/coercion;
-// or `refused` and the number. Of the input the first 655,360 bytes are read.
+// or `refused` and the number. A file that is cut short is not listed. Of the input the first 655,360 bytes are read.
+use cases::Next;
 use effects::Listed;
 use libc::STDIN_FILENO;
 use libc::STDOUT_FILENO;
-ghost use Prim.Native.Nat.{_+_, _≤_, _<_};
+ghost use Prim.Native.Nat.{_≤_};
 ghost use lib.ListN.{length};
 
 // Twice the 3,999 records that a file has at most: enough for any file, so that none is refused with 10.
@@ -18,28 +19,14 @@ fn main() {
 
 fn list_files(input: &[u8]) {
     let mut at = 0;
-    while at < input.len() {
-        at = list_file(input, at);
+    loop {
+        let next = cases::next_case(input, at, 2);
+        let Next::File { start, end } = next else {
+            return;
+        };
+        print_effects(&input[start..end]);
+        at = end;
     }
-}
-
-// Lists the file whose length stands at `at`, and returns where the next one's stands. A file that is cut short is not listed.
-fn list_file(input: &[u8], at: usize) -> usize
-    requires { ⌜ at < length (now input) ⌝ }
-    ensures { λ r. ⌜ (at < r) × (r ≤ length (now (input .entry))) ⌝ }
-{
-    let left = input.len() - at;
-    if left < 2 {
-        return input.len();
-    }
-    let size = le::get16(input, at);
-    if left - 2 < size {
-        return input.len();
-    }
-    let start = at + 2;
-    let end = start + size;
-    print_effects(&input[start..end]);
-    end
 }
 
 fn print_effects(src: &[u8]) {

@@ -7,6 +7,7 @@ use driver::judge::{Judge, Tally};
 use driver::library::Library;
 use driver::listings;
 use driver::oracle::Oracle;
+use driver::reductions;
 use driver::run;
 use driver::side::{Port, Side};
 use driver::speed;
@@ -23,6 +24,7 @@ driver fixed --oracle PATH [--seed S] FILE
                                           makes the fixed list
 driver listings                           the effects of the files on standard input, as the
                                           program listings prints them
+driver reductions                         what is left of them, as the program reductions prints it
 driver speed [--seed S]                   nanoseconds a record";
 
 const BRIEF_TREES: u64 = 200_000;
@@ -44,7 +46,8 @@ fn main() -> ExitCode {
         "run" => run(&arguments),
         "replay" => replay(&arguments),
         "fixed" => make_fixed_list(&arguments),
-        "listings" => list_input(),
+        "listings" => input().map(|input| listings::text(&Port, &input)),
+        "reductions" => input().map(|input| reductions::text(&Port, &input)),
         "speed" => measure(&arguments),
         _ => Err(HELP.to_string()),
     });
@@ -163,10 +166,10 @@ fn make_fixed_list(arguments: &Arguments) -> Result<String, String> {
     Ok(format!("{} cases, {} bytes\n", cases.len(), bytes.len()))
 }
 
-fn list_input() -> Result<String, String> {
+fn input() -> Result<Vec<u8>, String> {
     let mut input = Vec::new();
     io::stdin().read_to_end(&mut input).map_err(|error| error.to_string())?;
-    Ok(listings::text(&Port, &input))
+    Ok(input)
 }
 
 fn measure(arguments: &Arguments) -> Result<String, String> {

@@ -1,0 +1,744 @@
+#!/usr/bin/env python3
+"""Tree files for Reduce, each with its answer by hand.
+
+  reductions.py cases      the standard input of the program `reductions` (crates/reductions): for each
+                           case the file's length and how many bytes are lent for the answer (two bytes
+                           each, little-endian), the byte that these hold before, and the file
+  reductions.py check      reads what was printed of the cases, and holds it to the answers by hand
+  reductions.py names      a line for each case: what it is
+
+What is printed for a case: `refused` and the number, `removable`, or `kept` and the length, then the
+rewritten file in hexadecimal, a line for the header and a line for each record; and behind any of
+them `tail`, how many lent bytes stand behind the answer, and how many of these have changed, which
+is 0 always. The stored output of the program is made by the plain port of the judges (`driver
+reductions`), which shares no code with the proved crates; `check` holds it to the answers here.
+
+An answer by hand is a tree that stands beside the case, or in a family of cases is built beside it:
+this script has no Reduce. Only the flag of a made node follows from its children (`made`).
+"""
+
+import sys
+
+from edges import (ARRAY, ARROW, BINARY, CALL, COUNT, ELISION, FUNCTION, IDENTIFIER, KIND, LOGICAL, NEW, OBJECT,
+                   OTHER_LEAF, PROPERTY, SEQUENCE, SETTINGS, SIZE, SPREAD, TEMPLATE, THIS, UNARY, VERSION, ZERO,
+                   Node, chain, columns, of, plus, tree_file, u16, with_byte, with_u16)
+from listings import (ACCESSOR, ANNOTATED, ANNOTATIONS, BLOCK, COMPARISON, DECORATED, DECORATED_CLASS, DERIVED,
+                      FIELD, FLAG, HERITAGE, INDEX_SIGNATURE, KEY, LAST_PLACE, LISTED, METHOD, NO_SYMBOL, NONEMPTY, NOT,
+                      OTHER_BINARY, OTHER_UNARY, STATIC, STRING, SUMMARY_FREE, SYMBOL, TREE_SHAKE_ONLY, TYPEOF, VALUE,
+                      VOID, add, call, class_of, element, literal, node, pure, sequence, sequence_of_one, x)
+
+MOST_RECORDS, MOST_DEPTH = 2000, 64
+
+# ---- Nodes beside those of listings.py: the place comes first
+
+
+def clear(place):
+    """An unflagged identifier; a possible symbol."""
+    return x(place, 0)
+
+
+def plain(place, facts=0):
+    """Of it, unflagged, a template is left nothing: no symbol."""
+    return x(place, NO_SYMBOL + facts)
+
+
+def string(place, text=1):
+    """A literal that is not the empty one; `literal` is."""
+    return spelled(text, literal(place))
+
+
+def spelled(text, root):
+    return Node(root.kind, *root.children, facts=root.facts, sub=root.sub, text=text, place=root.place)
+
+
+def unary(sub, place, argument, facts=FLAG):
+    return node(UNARY, place, argument, facts=facts, sub=sub)
+
+
+def void(place, argument, facts=FLAG):
+    return unary(VOID, place, argument, facts)
+
+
+def array(place, *children, facts=FLAG):
+    return node(ARRAY, place, *children, facts=facts)
+
+
+def spread(place, argument, facts=FLAG):
+    return node(SPREAD, place, argument, facts=facts)
+
+
+def elision(place):
+    return node(ELISION, place)
+
+
+def obj(place, *children, facts=FLAG):
+    return node(OBJECT, place, *children, facts=facts)
+
+
+def prop(place, *children):
+    """A value, or a key and a value."""
+    return node(PROPERTY, place, *children, sub=len(children) - 1)
+
+
+def template(place, *children, facts=FLAG):
+    return node(TEMPLATE, place, *children, facts=facts)
+
+
+def compare(place, left, right, facts=FLAG):
+    return node(BINARY, place, left, right, facts=facts, sub=COMPARISON)
+
+
+def new(place, *children, facts=0):
+    return node(NEW, place, *children, facts=facts)
+
+
+def number(place):
+    """1, 2, ..: an unflagged leaf that is no symbol."""
+    return spelled(1, node(OTHER_LEAF, place, facts=NO_SYMBOL))
+
+
+def made(kind, place, *children):
+    """Text 0, symbol and string unknown; "flag set if a child's is, and on every made template"."""
+    flagged = kind == TEMPLATE or any(child.facts & FLAG for child in children)
+    return node(kind, place, *children, facts=FLAG if flagged else 0)
+
+
+def several(place, *children):
+    return made(SEQUENCE, place, *children)
+
+
+# ---- The cases
+
+REMOVABLE = b""
+SPARE = (0, 1, 16, 37)  # lent beyond what a file needs, in turn
+FILLS = (0xA5, 0x00, 0xFF, 0x55, 0x01)  # 55 is the first byte of a file
+
+
+def room(data):
+    """The fewest bytes that are enough for an answer."""
+    return 8 + 16 * (2 * u16(data, COUNT) - 1)
+
+
+def printed(lent, answer):
+    """The lines of a case: the answer is a refusal's number, or the bytes of the rewritten file."""
+    if isinstance(answer, int):
+        return [f"refused {answer}", f"tail {lent} 0"]
+    if answer == REMOVABLE:
+        return ["removable", f"tail {lent} 0"]
+    records = [answer[at:at + 16].hex() for at in range(8, len(answer), 16)]
+    return [f"kept {len(answer)}", answer[:8].hex(), *records, f"tail {lent - len(answer)} 0"]
+
+
+class Cases:
+    def __init__(self):
+        self.cases = []
+
+    def add(self, name, data, answer, lent=None, fill=None):
+        index = len(self.cases)
+        lent = room(data) + SPARE[index % len(SPARE)] if lent is None else lent
+        fill = FILLS[index % len(FILLS)] if fill is None else fill
+        self.cases.append((name, data, lent, fill, printed(lent, answer)))
+
+    def refused(self, name, data, number, lent=64, fill=None):
+        self.add(f"refused with {number}: {name}", data, number, lent, fill)
+
+    def removable(self, name, root, settings=0, lent=None, fill=None):
+        self.add(name, tree_file(root, settings), REMOVABLE, lent, fill)
+
+    def kept(self, name, root, answer, settings=0, lent=None, fill=None):
+        self.add(name, tree_file(root, settings), tree_file(answer, settings), lent, fill)
+
+    def unchanged(self, name, root, settings=0, lent=None, fill=None):
+        self.kept(name, root, root, settings, lent, fill)
+
+    def either(self, name, root, answer, settings=0):
+        """No answer: removable."""
+        if answer is None:
+            self.removable(name, root, settings)
+        else:
+            self.kept(name, root, answer, settings)
+
+
+def rows(c):
+    """Document 01: "f(), g() flagged impure calls, x unflagged"."""
+
+    def f(place, facts=FLAG):
+        return call(place, spelled(6, clear(place)), facts=facts)
+
+    def g(place):
+        return call(place, spelled(7, clear(place)))
+
+    s, no_symbol = spelled(19, clear(13)), FLAG + NO_SYMBOL
+    c.removable("A: []", array(10, facts=0))
+    c.kept("B: [f(), ...x]", array(10, f(11), spread(16, clear(19), 0)), f(11))
+    c.kept("C: (f(), 1)", sequence(10, f(11), number(16)), sequence(10, f(11)))
+    c.removable("D: typeof y", unary(TYPEOF, 10, x(17)))
+    c.unchanged("E: {...x}", obj(10, spread(12, clear(15))))
+    c.kept("F: {...x, a: f()}", obj(10, spread(12, clear(15), 0), prop(20, f(23))),
+           several(10, made(OBJECT, 20, spread(12, clear(15), 0)), f(23)))
+    c.unchanged("G: template of s", template(10, s))
+    c.kept("H: template of s and f()", spelled(9, template(10, s, f(17, no_symbol))),
+           several(10, made(TEMPLATE, 17, s), f(17, no_symbol)))
+    c.kept("I: class {static p = 1}", class_of(10, element(17, FIELD + STATIC + VALUE, number(28)), facts=0),
+           sequence(10, number(28), facts=0))
+    c.kept("J: f() < g()", compare(10, f(10), g(16)), sequence(10, f(10), g(16)))
+    c.kept('K: "a" + f()', add(10, string(10), f(16)), add(10, literal(10), f(16)))
+    c.unchanged("L: new x()", new(10, clear(14)))
+    _, a, b = columns().children
+    c.kept("the example, [1, a(), ...b]", columns(), array(0, a, b))
+
+
+def leaves(c):
+    c.removable("a literal", string(7))
+    c.removable("an empty literal", literal(7))
+    for kind in (IDENTIFIER, FUNCTION, ARROW, OTHER_LEAF):
+        c.unchanged(f"kind {kind}, flagged", node(kind, 7, facts=FLAG))
+        c.removable(f"kind {kind}, clear", node(kind, 7))
+    c.unchanged("the greatest text and place, each fact but the flag's", spelled(LAST_PLACE, x(LAST_PLACE, FLAG + STRING)))
+    for settings in range(8):
+        for facts in (0, FLAG):
+            this = node(THIS, 7, facts=facts)
+            c.either(f"this, facts {facts}, settings {settings}", this, this if settings & DERIVED else None, settings)
+
+
+def unaries(c):
+    for sub in (VOID, NOT):
+        c.kept(f"unary, sub {sub}, of a flagged leaf", unary(sub, 1, x(2)), x(2))
+        c.removable(f"unary, sub {sub}, flagged, of a clear leaf", unary(sub, 1, clear(2)))
+    for facts in (0, FLAG):
+        c.removable(f"typeof an identifier, facts {facts}", unary(TYPEOF, 1, x(2, facts), facts))
+    for kind in (FUNCTION, ARROW, OTHER_LEAF):
+        leaf = node(kind, 2, facts=FLAG)
+        c.kept(f"typeof a leaf of kind {kind}", unary(TYPEOF, 1, leaf), leaf)
+    c.kept("typeof this, derived", unary(TYPEOF, 1, node(THIS, 2)), node(THIS, 2), DERIVED)
+    c.removable("typeof this, not derived", unary(TYPEOF, 1, node(THIS, 2, facts=FLAG)), 3)
+    c.kept("typeof void of an identifier", unary(TYPEOF, 1, void(2, x(3))), x(3))
+    c.removable("void typeof an identifier", void(1, unary(TYPEOF, 2, x(3))))
+    c.kept("typeof a sequence of an identifier", unary(TYPEOF, 1, sequence(2, x(3))), sequence(2, x(3)))
+    c.unchanged("other unary, flagged: the argument is not reduced", unary(OTHER_UNARY, 1, void(2, x(3))))
+    c.removable("other unary, clear: a flagged argument goes with it", unary(OTHER_UNARY, 1, x(2), 0))
+    c.kept("not not void void", unary(NOT, 1, unary(NOT, 2, void(3, void(4, x(5))))), x(5))
+
+
+def sequences(c):
+    c.removable("sequence, flagged, empty", sequence(1))
+    c.removable("sequence, none left", sequence(1, clear(2), number(3), string(4)))
+    own = FLAG + NO_SYMBOL
+    c.kept("sequence, one left: its own facts, text and place", spelled(5, sequence(1, clear(2), x(3), clear(4), facts=own)),
+           spelled(5, sequence(1, x(3), facts=own)))
+    c.kept("sequence, several left", sequence(1, x(2), clear(3), x(4), clear(5), x(6)), sequence(1, x(2), x(4), x(6)))
+    c.unchanged("sequence, all left, its own flag clear", sequence(1, x(2), x(3), facts=0))
+    c.kept("sequence, a reduced child", sequence(1, void(2, x(3)), void(4, clear(5))), sequence(1, x(3)))
+    c.kept("sequences within a sequence", sequence(1, sequence(2, clear(3)), sequence(4, x(5), clear(6)), x(7)),
+           sequence(1, sequence(4, x(5)), x(7)))
+    c.removable("sequences within a sequence, none left", sequence(1, sequence(2, sequence(3), clear(4)), sequence(5)))
+
+
+def arrays(c):
+    c.removable("array, flagged, empty", array(1))
+    c.removable("array of elisions", array(1, elision(2), elision(3)))
+    c.removable("array of clear leaves", array(1, clear(2), number(3)))
+    c.removable("array of a clear spread: what is spread goes with it", array(1, spread(2, x(3), 0)))
+    c.kept("array, one left", array(1, elision(2), x(3), clear(4), spread(5, x(6), 0)), x(3))
+    c.kept("array, a sequence left", array(1, clear(2), sequence(3, x(4))), sequence(3, x(4)))
+    c.kept("array, several left", spelled(5, array(1, x(2), clear(3), x(4), elision(5), x(6), facts=FLAG + NO_SYMBOL)),
+           several(1, x(2), x(4), x(6)))
+    c.kept("array, several left and none flagged", array(1, new(2, clear(3)), new(4, clear(5))),
+           sequence(1, new(2, clear(3)), new(4, clear(5)), facts=0))
+    c.kept("array, a spread left: its own facts, text and place",
+           spelled(5, array(1, elision(2), clear(3), x(4), spread(5, x(6), 0), spread(7, clear(8)), facts=NO_SYMBOL)),
+           spelled(5, array(1, x(4), spread(7, clear(8)), facts=NO_SYMBOL)))
+    c.unchanged("array of a flagged spread, which is not reduced", array(1, spread(2, void(3, x(4)))))
+    c.kept("array, two spreads left", array(1, spread(2, clear(3)), clear(4), spread(5, clear(6))),
+           array(1, spread(2, clear(3)), spread(5, clear(6))))
+    c.kept("arrays within an array", array(1, array(2, x(3), x(4)), array(5, elision(6)), array(7, x(8))),
+           several(1, several(2, x(3), x(4)), x(8)))
+    c.kept("an array with a spread within an array", array(1, array(2, clear(3), spread(4, clear(5)))),
+           array(2, spread(4, clear(5))))
+
+
+def templates(c):
+    """`clear` waits, `plain` goes, and a flagged `plain` is kept."""
+    c.removable("template, flagged, empty", template(1))
+    c.removable("template, flagged, empty, its text not 0", spelled(9, template(1)))
+    c.unchanged("template, all wait, text 0", template(1, clear(2), x(3, SYMBOL), x(4)))
+    c.unchanged("template, what waits is not reduced, text 0", template(1, void(2, x(3)), array(4), facts=STRING))
+    for text in (1, LAST_PLACE):
+        c.kept(f"template, one waits, text {text}", spelled(text, template(1, clear(2))), made(TEMPLATE, 1, clear(2)))
+    c.kept("template, all wait unreduced, text not 0", spelled(9, template(1, void(2, x(3)), clear(4), facts=STRING)),
+           made(TEMPLATE, 1, void(2, x(3)), clear(4)))
+    for text in (0, 9):
+        c.removable(f"template, all go, text {text}", spelled(text, template(1, plain(2), string(3))))
+        c.kept(f"template, one kept, text {text}", spelled(text, template(1, plain(2), plain(3, FLAG))), plain(3, FLAG))
+        c.kept(f"template, several kept, text {text}", spelled(text, template(1, plain(2, FLAG), plain(3), plain(4, FLAG))),
+               several(1, plain(2, FLAG), plain(4, FLAG)))
+        c.kept(f"template, one waits and one goes, text {text}", spelled(text, template(1, clear(2), plain(3))),
+               made(TEMPLATE, 1, clear(2)))
+        c.kept(f"template, one goes and one waits, text {text}", spelled(text, template(1, plain(2), clear(3))),
+               made(TEMPLATE, 1, clear(3)))
+    flushes(c)
+
+
+def flushes(c):
+    a, b, d = plain(20, FLAG), plain(30, FLAG), plain(40)
+    c.kept("template: what waits, then a kept one", template(1, clear(2), a), several(1, made(TEMPLATE, 20, clear(2)), a))
+    c.kept("template: a kept one, then what waits", template(1, a, clear(2)), several(1, a, made(TEMPLATE, 1, clear(2))))
+    c.kept("template: two wait, two are kept, two wait", template(1, clear(2), x(3), a, b, clear(4), clear(5)),
+           several(1, made(TEMPLATE, 20, clear(2), x(3)), a, b, made(TEMPLATE, 1, clear(4), clear(5))))
+    c.kept("template: what waits before each of two kept ones", template(1, clear(2), a, clear(3), b),
+           several(1, made(TEMPLATE, 20, clear(2)), a, made(TEMPLATE, 30, clear(3)), b))
+    c.kept("template: a dropped one does not flush", template(1, clear(2), d, clear(3), a),
+           several(1, made(TEMPLATE, 20, clear(2), clear(3)), a))
+    c.kept("template: a dropped one before the end", template(1, a, clear(2), d, clear(3)),
+           several(1, a, made(TEMPLATE, 1, clear(2), clear(3))))
+    c.kept("template: the kept one's place after reduction", template(1, clear(2), void(3, a, FLAG + NO_SYMBOL)),
+           several(1, made(TEMPLATE, 20, clear(2)), a))
+    c.kept("template: the place of a sequence that is made", template(1, clear(2), array(3, a, b, facts=FLAG + NO_SYMBOL)),
+           several(1, made(TEMPLATE, 3, clear(2)), several(3, a, b)))
+    c.kept("template: the place of a comparison's side", template(1, clear(2), compare(3, d, b, FLAG + NO_SYMBOL)),
+           several(1, made(TEMPLATE, 30, clear(2)), b))
+    inner = template(3, clear(4), facts=FLAG + STRING)
+    c.kept("a template in a template, as it was", template(1, clear(2), inner), several(1, made(TEMPLATE, 3, clear(2)), inner))
+    c.kept("a template in a template, rewritten", template(1, clear(2), spelled(9, inner)),
+           several(1, made(TEMPLATE, 3, clear(2)), made(TEMPLATE, 3, clear(4))))
+
+
+def objects(c):
+    c.removable("object, flagged, empty", obj(1))
+    c.removable("object of clear spreads: what is spread goes with them", obj(1, spread(2, x(3), 0), spread(4, x(5), 0)))
+    c.unchanged("object of spreads, the last one flagged, none reduced",
+                spelled(5, obj(1, spread(2, x(3), 0), spread(4, void(5, x(6))), facts=NO_SYMBOL)))
+    c.removable("object, none left", obj(1, prop(2, clear(3)), prop(4, number(5), clear(6))))
+    c.kept("object, a value left", obj(1, prop(2, clear(3)), prop(4, string(5), x(6))), x(6))
+    c.kept("object, a key left", obj(1, prop(2, x(3), clear(4))), x(3))
+    c.kept("object, key and value reduced", obj(1, prop(2, void(3, x(4)), array(5, x(6), x(7)))),
+           several(1, x(4), several(5, x(6), x(7))))
+    c.kept("object, several properties", spelled(5, obj(1, prop(2, x(3)), prop(4, x(5), x(6)), prop(7, x(8)))),
+           several(1, x(3), x(5), x(6), x(8)))
+    one, two = spread(20, clear(21), 0), spread(30, void(31, x(32)))
+    c.kept("object, a clear spread before a property", obj(1, one, prop(4, x(5))), several(1, made(OBJECT, 4, one), x(5)))
+    c.kept("object, a flagged spread after a property", obj(1, prop(4, x(5)), two), several(1, x(5), made(OBJECT, 1, two)))
+    c.kept("object, spreads around a property", obj(1, one, prop(4, x(5)), two),
+           several(1, made(OBJECT, 4, one), x(5), made(OBJECT, 1, two)))
+    c.kept("object, adjacent spreads wait together", obj(1, one, two, prop(4, x(5), x(6))),
+           several(1, made(OBJECT, 4, one, two), x(5), x(6)))
+    c.kept("object, a property of which nothing is left", obj(1, one, prop(4, clear(5))), made(OBJECT, 4, one))
+    c.kept("object, spreads behind a property of which nothing is left", obj(1, prop(4, clear(5)), one, one),
+           made(OBJECT, 1, one, one))
+    c.kept("object, such a property between spreads, none flagged", obj(1, one, prop(4, clear(5)), one),
+           sequence(1, made(OBJECT, 4, one), made(OBJECT, 1, one), facts=0))
+    c.kept("objects within an object", obj(1, prop(2, obj(3, two)), one, prop(4, obj(5, one, prop(6, x(7))))),
+           several(1, obj(3, two), made(OBJECT, 4, one), several(5, made(OBJECT, 6, one), x(7))))
+
+
+def comparisons(c):
+    c.removable("comparison, flagged, none left", compare(1, clear(2), number(3)))
+    c.kept("comparison, the left one left", compare(1, x(2), clear(3)), x(2))
+    c.kept("comparison, the right one left", compare(1, clear(2), x(3)), x(3))
+    c.kept("comparison, a sequence left alone is itself", compare(1, sequence(2, x(3), clear(4)), clear(5)), sequence(2, x(3)))
+    c.kept("join_sequence: none is a sequence", spelled(5, compare(1, x(2), x(3), FLAG + NO_SYMBOL)), several(1, x(2), x(3)))
+    left, right = spelled(5, sequence(20, x(21), x(22), facts=FLAG + NO_SYMBOL)), sequence(30, x(31), x(32))
+    c.kept("join_sequence: the left one is a sequence", compare(1, left, x(2)), several(1, x(21), x(22), x(2)))
+    c.kept("join_sequence: the right one is a sequence", compare(1, x(2), right), several(1, x(2), x(31), x(32)))
+    c.kept("join_sequence: both are, the right one is appended whole", compare(1, left, right), several(1, x(21), x(22), right))
+    c.kept("join_sequence: a sequence of one on either side", compare(1, sequence(2, x(3)), sequence(4, x(5))),
+           several(1, x(3), sequence(4, x(5))))
+    c.kept("join_sequence: sequences that are made", compare(1, array(2, x(3), x(4)), obj(5, prop(6, x(7), x(8)))),
+           several(1, x(3), x(4), several(5, x(7), x(8))))
+    c.kept("a comparison on the left", compare(1, compare(2, x(3), x(4)), x(5)), several(1, x(3), x(4), x(5)))
+    c.kept("a comparison on the right", compare(1, x(2), compare(3, x(4), x(5))), several(1, x(2), x(4), x(5)))
+    c.kept("a comparison on either side", compare(1, compare(2, x(3), x(4)), compare(5, x(6), x(7))),
+           several(1, x(3), x(4), several(5, x(6), x(7))))
+    a, b = new(40, clear(41)), new(50, clear(51))
+    c.kept("join_sequence: the flag is the children's, not the left sequence's", compare(1, sequence(2, a), b),
+           sequence(1, a, b, facts=0))
+    c.kept("join_sequence: nor the right one's", compare(1, a, sequence(2, b)), sequence(1, a, b, facts=0))
+    c.kept("join_sequence: a flagged sequence that is appended is a child", compare(1, sequence(2, a), sequence(3, b)),
+           several(1, a, sequence(3, b)))
+    # An empty sequence is kept only where it is a string with an effect on the left of an addition that gives way.
+    empty, other = sequence(2, facts=FLAG + STRING), sequence(6, facts=FLAG + STRING)
+    gives_way, other_way = add(1, empty, string(3)), add(5, other, string(7))
+    c.kept("an empty sequence that is kept", gives_way, empty)
+    c.kept("join_sequence: the left one is empty", compare(10, gives_way, x(11)), several(10, x(11)))
+    c.kept("join_sequence: the right one is empty", compare(10, x(11), gives_way), several(10, x(11)))
+    c.kept("join_sequence: both are empty", compare(10, gives_way, other_way), several(10, other))
+
+
+def sum_of(leaves, facts=FLAG, inner=FLAG):
+    """((a + b) + c) + ..: the additions are at 101, 102, .. from the inmost on; all but the outmost have the facts `inner`."""
+    left = leaves[0]
+    for index, leaf in enumerate(leaves[1:], 1):
+        left = add(100 + index, left, leaf, facts if index == len(leaves) - 1 else inner)
+    return left
+
+
+def with_leaf(others, place, leaf):
+    return [leaf if other.place == place else other for other in others]
+
+
+def chains(c):
+    """One string in a chain of additions of each depth, at each of its places."""
+    for depth in range(1, 6):
+        places = range(1, depth + 2)
+        symbols, plains, flagged = [clear(p) for p in places], [plain(p) for p in places], [x(p) for p in places]
+        c.unchanged(f"{depth} additions, no string", sum_of(plains))
+        c.removable(f"{depth} additions, the outmost clear", sum_of(with_leaf(flagged, 1, string(1)), facts=0))
+        for p in places:
+            name = f"{depth} additions, a string at {p}"
+            for others, of_what in ((symbols, "symbols"), (flagged, "flagged")):
+                c.kept(f"{name}, the others {of_what}", sum_of(with_leaf(others, p, string(p))),
+                       sum_of(with_leaf(others, p, literal(p))))
+            up_to = plains[:p]
+            c.either(f"{name}, the others no symbols: what follows goes", sum_of(with_leaf(plains, p, string(p))),
+                     None if p == 1 else sum_of(with_leaf(up_to, p, literal(p))))
+            with_effect = x(p, FLAG + STRING)
+            c.kept(f"{name}, flagged, the others no symbols: what follows goes", sum_of(with_leaf(plains, p, with_effect)),
+                   sum_of(with_leaf(up_to, p, with_effect)))
+            clear_chains(c, name, depth, p, symbols, plains)
+
+
+def clear_chains(c, name, depth, p, symbols, plains):
+    """All additions but the outmost are clear: the left one is emptied where it is a string."""
+    last = depth + 1
+    if depth == 1:
+        return
+    tree = sum_of(with_leaf(symbols, p, string(p)), inner=0)
+    if p == last:
+        answer = sum_of(with_leaf(symbols, p, literal(p)), inner=0)
+    else:
+        answer = add(100 + depth, literal(100 + depth - 1), clear(last))
+    c.kept(f"{name}, the others symbols, the inner additions clear", tree, answer)
+    emptied = sum_of(with_leaf(plains, p, literal(p)), inner=0) if p == last else None
+    c.either(f"{name}, the others no symbols, the inner additions clear", sum_of(with_leaf(plains, p, string(p)), inner=0),
+             emptied)
+
+
+def additions(c):
+    c.removable("two strings", add(1, string(2), string(3)))
+    c.removable("clear, of flagged sides", add(1, x(2), x(3), 0))
+    c.kept("a string that is no literal, on the left", add(1, x(2, STRING), x(3, SYMBOL)), add(1, literal(2), x(3, SYMBOL)))
+    c.kept("a string that is no literal, on the right", add(1, clear(2), template(3, x(4), facts=STRING)),
+           add(1, clear(2), literal(3)))
+    c.kept("a string on either side, the right one flagged", add(1, string(2), x(3, FLAG + STRING)),
+           add(1, literal(2), x(3, FLAG + STRING)))
+    c.kept("a string on either side, the left one flagged", add(1, x(2, FLAG + STRING), string(3)), x(2, FLAG + STRING))
+    c.unchanged("a string on the right, flagged", add(1, clear(2), x(3, FLAG + STRING)))
+    c.kept("its own facts, text and place", spelled(5, add(1, string(2), clear(3), FLAG + STRING)),
+           spelled(5, add(1, literal(2), clear(3), FLAG + STRING)))
+    c.kept("sides are not reduced", add(1, string(2), void(3, x(4))), add(1, literal(2), void(3, x(4))))
+    c.kept("the left one takes the addition's place unreduced", add(1, void(2, x(3), FLAG + STRING), string(4)),
+           void(2, x(3), FLAG + STRING))
+    c.unchanged("the right one is an addition of a string, not recorded as one", add(1, clear(2), add(3, string(4), clear(5))))
+    c.kept("the right one is an addition, recorded as a string", add(1, clear(2), add(3, string(4), clear(5), STRING)),
+           add(1, clear(2), literal(3)))
+    c.unchanged("the left one is an addition, recorded as a string, and is none",
+                add(1, add(2, clear(3), clear(4), FLAG + STRING), clear(5)))
+    c.kept("the place of what the left one is folded to", add(1, add(2, x(3, STRING), plain(4), 0), clear(5)),
+           add(1, literal(3), clear(5)))
+    c.kept("a string at both ends of a chain", sum_of([string(1), clear(2), clear(3), string(4)]),
+           sum_of([literal(1), clear(2), clear(3)]))
+    c.kept("strings at all places but the second", sum_of([string(1), clear(2), string(3), string(4)]),
+           sum_of([literal(1), clear(2)]))
+    c.kept("within an addition that gives way", add(1, add(2, add(3, clear(4), string(5)), plain(6)), plain(7)),
+           add(3, clear(4), literal(5)))
+    c.unchanged("other binary, flagged: its sides are not reduced",
+                node(BINARY, 1, void(2, x(3)), clear(4), facts=FLAG, sub=OTHER_BINARY))
+    c.removable("other binary, clear: flagged sides go with it", node(BINARY, 1, x(2), x(3), sub=OTHER_BINARY))
+
+
+def calls(c):
+    c.unchanged("impure call, flagged: nothing of it is reduced", call(1, void(2, x(3)), clear(4), spread(5, clear(6), 0)))
+    c.removable("impure call, clear: flagged arguments go with it", call(1, x(2), x(3), facts=0))
+    c.unchanged("impure new, flagged", new(1, void(2, x(3)), clear(4), facts=FLAG))
+    c.unchanged("impure new, clear", new(1, void(2, x(3)), clear(4)))
+    for settings in range(8):
+        for facts in (0, ANNOTATED, LISTED, ANNOTATED + LISTED):
+            for kind in (CALL, NEW):
+                root = node(kind, 1, x(2), x(3), facts=FLAG + facts)
+                c.kept(f"kind {kind}, facts {facts} and flagged, settings {settings}", root,
+                       x(3) if pure(settings, facts) else root, settings)
+    for settings in (0, TREE_SHAKE_ONLY, 5, 7):
+        for callee in (IDENTIFIER, FUNCTION, ARROW, OTHER_LEAF):
+            callees(c, settings, callee)
+
+
+def callees(c, settings, kind):
+    callee, said = node(kind, 2, facts=FLAG), f"the callee of kind {kind}, settings {settings}"
+    free = call(1, callee, x(3), facts=FLAG + SUMMARY_FREE)
+    c.kept(f"summary free, {said}", free, x(3) if kind == IDENTIFIER else free, settings)
+    impure = call(1, callee, x(3), facts=0)
+    kept = settings & TREE_SHAKE_ONLY and kind in (FUNCTION, ARROW)
+    c.either(f"impure, clear, {said}", impure, impure if kept else None, settings)
+    c.kept(f"listed, clear, {said}", call(1, callee, x(3), facts=LISTED), x(3), settings)
+
+
+def arguments(c):
+    for kind in (CALL, NEW):
+        for facts in (LISTED, FLAG + LISTED):
+            say = f"pure, kind {kind}, facts {facts}: "
+            c.removable(say + "no arguments", node(kind, 1, x(2), facts=facts))
+            c.removable(say + "none left", node(kind, 1, x(2), clear(3), spread(4, x(5), 0), facts=facts))
+            c.kept(say + "one left", node(kind, 1, x(2), clear(3), void(4, x(5)), facts=facts), x(5))
+            c.kept(say + "several left", node(kind, 1, x(2), x(3), clear(4), void(5, x(6)), facts=facts),
+                   several(1, x(3), x(6)))
+            c.kept(say + "a flagged spread, not reduced", node(kind, 1, x(2), spread(3, void(4, x(5))), facts=facts),
+                   made(ARRAY, 3, spread(3, void(4, x(5)))))
+            c.kept(say + "spreads and others", node(kind, 1, x(2), spread(3, clear(4)), x(5), spread(6, x(7), 0),
+                                                  spread(8, clear(9)), facts=facts),
+                   several(1, made(ARRAY, 3, spread(3, clear(4))), x(5), made(ARRAY, 8, spread(8, clear(9)))))
+    c.kept("pure, none flagged", call(1, x(2), new(3, clear(4)), new(5, clear(6)), facts=LISTED),
+           sequence(1, new(3, clear(4)), new(5, clear(6)), facts=0))
+    c.kept("a pure call whose callee is a call", call(1, call(2, x(3), x(4)), x(5), facts=LISTED), x(5))
+    c.kept("pure calls within a pure call",
+           call(1, x(2), call(3, x(4), x(5), x(6), facts=LISTED), call(7, x(8), facts=LISTED), x(9), facts=LISTED),
+           several(1, several(3, x(5), x(6)), x(9)))
+    c.removable("annotated, a call of a function, both settings", call(1, node(FUNCTION, 2), facts=ANNOTATED),
+                ANNOTATIONS + TREE_SHAKE_ONLY)
+    c.unchanged("annotated, a call of a function, annotations off", call(1, node(FUNCTION, 2), facts=ANNOTATED), TREE_SHAKE_ONLY)
+
+
+def classes(c):
+    c.removable("class, flagged, empty", class_of(1))
+    c.removable("class of methods, clear fields and an empty block",
+                class_of(1, element(2, METHOD), element(3, FIELD), element(4, BLOCK), element(5, ACCESSOR + STATIC)))
+    stays(c)
+    heritages(c)
+    part = FIELD + STATIC + VALUE
+    for form in (METHOD, FIELD, ACCESSOR):
+        c.kept(f"class, a flagged key, form {form}", class_of(1, element(2, form + KEY, x(3))), several(1, x(3)))
+        c.removable(f"class, a clear key, form {form}", class_of(1, element(2, form + KEY, array(3, x(4), facts=0))))
+    for form in (FIELD, ACCESSOR):
+        c.kept(f"class, a static value, form {form}", class_of(1, element(2, form + STATIC + VALUE, clear(3))),
+               sequence(1, clear(3), facts=0))
+        c.removable(f"class, a flagged value that is not static, form {form}", class_of(1, element(2, form + VALUE, x(3))))
+    c.kept("class, key and value: the key first", class_of(1, element(2, part + KEY, x(3), clear(4))), several(1, x(3), clear(4)))
+    c.kept("class, a clear key, its value", class_of(1, element(2, part + KEY, clear(3), clear(4))),
+           sequence(1, clear(4), facts=0))
+    c.kept("class, a static method's key", class_of(1, element(2, METHOD + STATIC + KEY, x(3))), several(1, x(3)))
+    c.kept("class, nothing extracted is reduced",
+           class_of(1, void(2, x(3)), element(4, part + KEY, void(5, x(6)), array(7, x(8), facts=0)), sub=HERITAGE),
+           several(1, void(2, x(3)), void(5, x(6)), array(7, x(8), facts=0)))
+    c.kept("class, heritage, then element by element",
+           class_of(1, x(2), element(3, part + KEY, x(4), clear(5)), element(6, BLOCK), element(7, METHOD + KEY, x(8)),
+                    element(9, ACCESSOR + VALUE + KEY, x(10), x(11)), element(12, part, clear(13)), sub=HERITAGE),
+           several(1, x(2), x(4), clear(5), x(8), x(10), clear(13)))
+    c.kept("a class as heritage, key and static value",
+           class_of(1, class_of(2, element(3, part, x(4))), element(5, part + KEY, class_of(6), class_of(7, facts=0)),
+                    sub=HERITAGE),
+           several(1, class_of(2, element(3, part, x(4))), class_of(6), class_of(7, facts=0)))
+    c.kept("a class within others", sequence(1, void(2, class_of(3, x(4), sub=HERITAGE)), class_of(5)),
+           sequence(1, several(3, x(4))))
+
+
+def stays(c):
+    """Each reason for a class to stay; nothing of it is then reduced."""
+    key = void(8, x(9))
+    method = element(2, METHOD + KEY, key)
+    c.unchanged("class stays: decorated", class_of(1, key, sub=DECORATED_CLASS + HERITAGE, facts=0))
+    for form in (METHOD, FIELD, ACCESSOR):
+        c.unchanged(f"class stays: the last element decorated, form {form}",
+                    class_of(1, method, element(3, form + DECORATED), facts=0))
+    c.unchanged("class stays: an index signature", class_of(1, method, element(3, INDEX_SIGNATURE), facts=0))
+    c.unchanged("class stays: a block, not empty", class_of(1, method, element(3, BLOCK + NONEMPTY), facts=0))
+    for form in (FIELD, ACCESSOR):
+        c.unchanged(f"class stays: a flagged static value, form {form}",
+                    class_of(1, element(2, form + STATIC + VALUE, key), facts=0))
+        c.unchanged(f"class stays: a flagged static value behind a clear key, form {form}",
+                    class_of(1, element(2, form + STATIC + VALUE + KEY, clear(3), key), facts=0))
+    c.unchanged("class stays: for one reason within others",
+                class_of(1, clear(2), element(3, BLOCK), element(4, FIELD + STATIC + VALUE, clear(5)),
+                         element(6, BLOCK + NONEMPTY), element(7, METHOD), sub=HERITAGE))
+
+
+def heritages(c):
+    arrow = node(ARROW, 9)
+    for name, heritage, kept in (
+            ("an arrow", arrow, True),
+            ("a function", node(FUNCTION, 9), False),
+            ("a sequence that ends in an arrow", sequence(2, clear(3), arrow, facts=0), True),
+            ("a sequence of an arrow, then an identifier", sequence(2, arrow, clear(3), facts=0), False),
+            ("an empty sequence", sequence(2, facts=0), False),
+            ("nested sequences that end in an arrow", sequence(2, clear(3), sequence(4, sequence(6, arrow)), facts=0), True),
+            ("nested sequences that end in an empty one", sequence(2, arrow, sequence(4, arrow, sequence(6)), facts=0), False),
+            ("nested sequences, an arrow last in the first", sequence(2, sequence(4, arrow), sequence(6), facts=0), False),
+            ("an array that ends in an arrow", array(2, arrow, facts=0), False)):
+        root = class_of(1, heritage, sub=HERITAGE)
+        c.either(f"class, heritage: {name}", root, root if kept else None)
+    c.kept("class, heritage: flagged", class_of(1, x(2), sub=HERITAGE), several(1, x(2)))
+    c.removable("class, heritage: clear, of a flagged one", class_of(1, array(2, x(3), facts=0), sub=HERITAGE))
+    flagged = sequence(2, arrow, sequence(3))
+    c.kept("class, heritage: a flagged sequence, not reduced", class_of(1, flagged, sub=HERITAGE), several(1, flagged))
+
+
+# ---- Each handler within each other one. Within, all nodes are no symbols, so that a template reduces them.
+
+INNER = FLAG + NO_SYMBOL
+
+
+def inners():
+    """The node at 20 and what is left of it."""
+    a, b = x(21), x(22)
+    leaf, some = node(OTHER_LEAF, 20, facts=INNER), spread(23, clear(24))
+    yield "a leaf", leaf, leaf
+    yield "a new", new(20, clear(21), facts=NO_SYMBOL), new(20, clear(21), facts=NO_SYMBOL)
+    yield "void", void(20, a, INNER), a
+    yield "a sequence", sequence(20, a, clear(22), facts=INNER), sequence(20, a, facts=INNER)
+    yield "an array", array(20, a, b, facts=INNER), several(20, a, b)
+    yield "an array with a spread", array(20, clear(21), some, facts=INNER), array(20, some, facts=INNER)
+    yield ("a template", spelled(9, template(20, clear(21), plain(22, FLAG), facts=INNER)),
+           several(20, made(TEMPLATE, 22, clear(21)), plain(22, FLAG)))
+    yield "an object", obj(20, some, prop(25, x(26)), facts=INNER), several(20, made(OBJECT, 25, some), x(26))
+    yield "a comparison", compare(20, a, b, INNER), several(20, a, b)
+    yield "an addition", add(20, string(21), b, INNER), add(20, literal(21), b, INNER)
+    yield "a pure call", call(20, a, b, some, facts=INNER + LISTED), several(20, b, made(ARRAY, 23, some))
+    yield ("a class", class_of(20, a, element(22, FIELD + STATIC + VALUE, clear(23)), sub=HERITAGE, facts=INNER),
+           several(20, a, clear(23)))
+
+
+def in_line(left):
+    """What `join_sequence` takes of a side beside one that is no sequence."""
+    return left.children if left.kind == SEQUENCE else (left,)
+
+
+def outers(inner, left):
+    """Around the node: the tree, and what is left of it; none: removable."""
+    one, two = x(1), x(50)
+    yield "void", void(2, inner), left
+    yield "typeof", unary(TYPEOF, 2, inner), left
+    yield "a sequence", sequence(2, clear(1), inner, clear(50)), sequence(2, left)
+    yield "an array", array(2, elision(1), inner, two), several(2, left, two)
+    yield "an array with a spread", array(2, inner, spread(50, clear(51))), array(2, left, spread(50, clear(51)))
+    yield ("a template", template(2, clear(1), inner, clear(50)),
+           several(2, made(TEMPLATE, left.place, clear(1)), left, made(TEMPLATE, 2, clear(50))))
+    yield ("an object", obj(2, spread(3, clear(4), 0), prop(5, one, inner)),
+           several(2, made(OBJECT, 5, spread(3, clear(4), 0)), one, left))
+    yield "a comparison, beside nothing", compare(2, inner, clear(50)), left
+    yield "a comparison, on the left", compare(2, inner, two), several(2, *in_line(left), two)
+    yield "a comparison, on the right", compare(2, one, inner), several(2, one, *in_line(left))
+    yield "a pure call", call(2, one, inner, facts=FLAG + LISTED), left
+    yield "an impure call", call(2, one, inner), call(2, one, inner)
+    yield ("a class, as a key", class_of(2, element(3, METHOD + KEY, inner)),
+           several(2, inner) if inner.facts & FLAG else None)
+
+
+def nested(c):
+    for inner_name, inner, left in inners():
+        for outer_name, root, answer in outers(inner, left):
+            c.either(f"{inner_name} in {outer_name}", root, answer)
+
+
+# ---- Sizes, refusals and what is lent
+
+
+def wide(records):
+    return sequence(1, *[x(place) for place in range(2, records + 1)])
+
+
+def limits(c):
+    kept_ones = [x(place) for place in (2, 3, 4)]
+    elisions = [elision(5) for _ in range(MOST_RECORDS - 1 - len(kept_ones))]
+    c.kept(f"{MOST_RECORDS} records", array(1, *kept_ones, *elisions), several(1, *kept_ones))
+    for records in (32, 33, 256, 257):
+        c.unchanged(f"{records} records, all left", wide(records))
+    spreads = [spread(place, clear(3)) for place in range(4, 4 + 15)]
+    c.kept("more records than before: 46 of 32", call(1, x(2), *spreads, facts=LISTED),
+           several(1, *[made(ARRAY, one.place, one) for one in spreads]))
+    c.unchanged(f"depth {MOST_DEPTH}", chain(MOST_DEPTH, sequence_of_one, lambda: x(2)))
+    c.kept(f"depth {MOST_DEPTH}, nothing of it left but a leaf",
+           chain(MOST_DEPTH, lambda inner: void(1, inner), lambda: x(2)), x(2))
+    c.kept("one level more than before",
+           chain(MOST_DEPTH - 1, sequence_of_one, lambda: template(5, clear(6), plain(7, FLAG))),
+           chain(MOST_DEPTH - 1, sequence_of_one, lambda: several(5, made(TEMPLATE, 7, clear(6)), plain(7, FLAG))))
+
+
+def refusals(c):
+    good = tree_file(call(1, x(2)))
+    too_deep = chain(MOST_DEPTH + 1, sequence_of_one, lambda: x(2))
+    for name, data, answer in (
+            ("no byte", b"", 1),
+            ("the first 7 bytes", good[:7], 1),
+            ("a wrong mark", with_byte(good, 0, 0), 1),
+            ("version 2", with_u16(good, VERSION, 2), 2),
+            ("version 257", with_u16(good, VERSION, 257), 2),
+            ("settings 8", with_byte(good, SETTINGS, 8), 3),
+            ("settings 128", with_byte(good, SETTINGS, 128), 3),
+            ("no record", with_u16(good, COUNT, 0)[:8], 4),
+            ("one byte short", good[:-1], 4),
+            ("one byte long", good + b"\0", 4),
+            ("2,001 records counted", with_u16(good, COUNT, MOST_RECORDS + 1), 4),
+            ("byte 3 of the last record is 1", with_byte(good, of(1, ZERO), 1), 5),
+            ("a new that is summary free", tree_file(new(1, x(2), facts=SUMMARY_FREE)), 5),
+            ("a logical node", with_byte(good, of(1, KIND), LOGICAL), 6),
+            ("a wrong size", plus(good, of(0, SIZE), 1), 7),
+            ("a spread as callee", tree_file(call(1, spread(2, x(3)))), 7),
+            ("an elision as root", tree_file(elision(1)), 7),
+            (f"depth {MOST_DEPTH + 1}", tree_file(too_deep), 8),
+            ("7 after 8", tree_file(sequence(1, too_deep, spread(2, x(3)))), 7),
+            ("5 after 6 and 7", with_byte(with_byte(plus(good, of(0, SIZE), 1), of(0, KIND), LOGICAL), of(1, ZERO), 1), 5)):
+        c.refused(name, data, answer)
+        c.refused(f"{name}, and nothing lent", data, answer, lent=0)
+    c.unchanged("the same file, whole", call(1, x(2)))
+
+
+def lent_bytes(c):
+    """N = 1 needs 24 bytes, and N = 2 needs 56."""
+    one, two = x(1), void(1, x(2))
+    for lent in (0, 1, 8, 23):
+        for fill in (0, 255):
+            c.refused(f"a flagged leaf, {lent} bytes of {fill} lent", tree_file(one), 9, lent, fill)
+        c.refused(f"a clear leaf, {lent} bytes lent", tree_file(clear(1)), 9, lent)
+    for lent in (24, 25, 40, 4096, 65535):
+        for fill in (0, 85, 255):
+            c.unchanged(f"a flagged leaf, {lent} bytes of {fill} lent", one, lent=lent, fill=fill)
+        c.removable(f"a clear leaf, {lent} bytes lent", clear(1), lent=lent)
+    for lent in (24, 40, 55):
+        c.refused(f"two records of which one is left, {lent} bytes lent", tree_file(two), 9, lent)
+        c.refused(f"two records of which none is left, {lent} bytes lent", tree_file(void(1, clear(2))), 9, lent)
+    for lent in (56, 57, 72):
+        c.kept(f"two records of which one is left, {lent} bytes lent", two, x(2), lent=lent)
+        c.removable(f"two records of which none is left, {lent} bytes lent", void(1, clear(2)), lent=lent)
+    for settings in range(8):
+        c.kept(f"settings {settings} are copied", two, x(2), settings)
+
+
+def all_cases():
+    c = Cases()
+    for group in (rows, leaves, unaries, sequences, arrays, templates, objects, comparisons, chains, additions, calls, arguments,
+                  classes, nested, limits, refusals, lent_bytes):
+        group(c)
+    return c.cases
+
+
+# ---- The modes
+
+
+def write_cases(out):
+    for _, data, lent, fill, _ in all_cases():
+        out.write(len(data).to_bytes(2, "little") + lent.to_bytes(2, "little") + bytes([fill]) + data)
+
+
+def check(text):
+    """Stops at the first case whose answer is not the one by hand."""
+    lines = text.splitlines()
+    for name, _, _, _, hand in all_cases():
+        read, lines = lines[:len(hand)], lines[len(hand):]
+        if read != hand:
+            sys.exit(f"reductions.py: {name}: printed is {read}, and by hand it is {hand}")
+    if lines:
+        sys.exit(f"reductions.py: {len(lines)} lines after the last case")
+
+
+def main(words):
+    if words == ["cases"]:
+        write_cases(sys.stdout.buffer)
+    elif words == ["check"]:
+        check(sys.stdin.read())
+    elif words == ["names"]:
+        for name, *_ in all_cases():
+            print(name)
+    else:
+        sys.exit("usage: reductions.py cases | check | names")
+
+
+if __name__ == "__main__":
+    main(sys.argv[1:])
