@@ -26,7 +26,7 @@ use Rattle.output.specs.Bytes.{Agree, agree-all}
 use Rattle.output.specs.Trees.{Wrote, CopiedTree, wrote-none, wrote-over, wrote-as}
 use Rattle.output.specs.Given as whole
 use Rattle.addition.specs.Fold.{RemovesAddition}
-use Rattle.class.specs.Class.{GivenClass, RemovesClass}
+use Rattle.classes.specs.Class.{GivenClass, RemovesClass}
 use Rattle.rewrite.specs.Waiting.{waits-none}
 use Rattle.rewrite.specs.Becomes.{GivenList, Becomes, noneOneSeveralOf, arrayOf, joinKeptOf}
 use Rattle.reduce.specs.declared.walk.Part.{Part}

@@ -101,6 +101,6 @@ pub fn remove_unused_expression(
             rewrite::none_one_several(src, at, out, pos, left.next)
         }
         Outcome::Addition => addition::remove_unused_addition(src, at, size, out, pos),
-        Outcome::Class => class::remove_unused_class(src, at, size, out, pos),
+        Outcome::Class => classes::remove_unused_class(src, at, size, out, pos),
     }
 }

@@ -22,7 +22,7 @@ use Rattle.reduce.proofs.expression.remove_unused_expression.Reads as r
 use Rattle.reduce.proofs.expression.remove_unused_expression.Kinds as remove-unused-expression-kinds
 use Rattle.reduce.proofs.expression.+reduce_child+reduce_children+remove_unused_expression.Lts-remove_unused_expression as remove-unused-expression-lts
 use Rattle.addition.proofs.remove_unused_addition.Reads as remove-unused-addition-reads
-use Rattle.class.proofs.remove_unused_class.Reads as remove-unused-class-reads
+use Rattle.classes.proofs.remove_unused_class.Reads as remove-unused-class-reads
 use Rattle.fields.proofs.subtree_at.Reads as subtree-at-reads
 use Rattle.handlers.proofs.handle.Reads as handle-reads
 use Rattle.output.proofs.copy_tree.Reads as copy-tree-reads

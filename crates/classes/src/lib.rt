@@ -1,8 +1,8 @@
 // `remove_unused_class`: what a class gives up where it is not kept.
 ghost use lib.ListN.{length};
 ghost use Rattle.output.specs.Given.{GivenList, GivenTree};
-ghost use Rattle.class.specs.Extract.{GivenAtMostOne, CopiesFlagged, ExtractsElement, ExtractsElements};
-ghost use Rattle.class.specs.Class.{GivenClass, RemovesClass};
+ghost use Rattle.classes.specs.Extract.{GivenAtMostOne, CopiesFlagged, ExtractsElement, ExtractsElements};
+ghost use Rattle.classes.specs.Class.{GivenClass, RemovesClass};
 
 // "a flagged heritage", "a flagged computed key": the tree at record at, of size records, or none.
 fn copy_if_flagged(src: &[u8], at: usize, size: usize, out: &mut [u8], pos: usize) -> usize

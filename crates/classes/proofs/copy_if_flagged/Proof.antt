@@ -1,7 +1,7 @@
-use Rattle.class.specs.Extract.{copies-none, some-inside, copies-flagged, copies-clear}
+use Rattle.classes.specs.Extract.{copies-none, some-inside, copies-flagged, copies-clear}
 use borrow.Author.Needs.{needs}
-use Rattle.class.proofs.copy_if_flagged.Statement.{statement}
-use Rattle.class.proofs.copy_if_flagged.Tie as tie
+use Rattle.classes.proofs.copy_if_flagged.Statement.{statement}
+use Rattle.classes.proofs.copy_if_flagged.Tie as tie
 
 returns : tie.Need-returns
 returns c = copies-none (c .if1 .taken)

@@ -1,8 +1,8 @@
 use Prim.Native.Nat.{_-_}
 use native.Mathlib.Omega.{arith}
-use Rattle.class.specs.Extract.{Extracting, extract-start, extract-done, walk-inside, subtree-some, subtree-within, element-given, extract-on}
-use Rattle.class.proofs.extract_elements.Statement.{statement}
-use Rattle.class.proofs.extract_elements.Tie as tie
+use Rattle.classes.specs.Extract.{Extracting, extract-start, extract-done, walk-inside, subtree-some, subtree-within, element-given, extract-on}
+use Rattle.classes.proofs.extract_elements.Statement.{statement}
+use Rattle.classes.proofs.extract_elements.Tie as tie
 
 abbrev Inv-loop : tie.InvT-loop
 Inv-loop src at size out₀ pos end p₀ next₀ out p next = Extracting src at size out₀ pos p end out next

@@ -1,9 +1,9 @@
 use mathlib.Core.Path.{refl}
 use native.Mathlib.Omega.{arith}
-use Rattle.class.specs.Extract.{element-first, key-within, key-given, key-ends, key-then-value, only-key}
+use Rattle.classes.specs.Extract.{element-first, key-within, key-given, key-ends, key-then-value, only-key}
 use borrow.Author.Needs.{needs}
-use Rattle.class.proofs.extract_element.Statement.{statement}
-use Rattle.class.proofs.extract_element.Tie as tie
+use Rattle.classes.proofs.extract_element.Statement.{statement}
+use Rattle.classes.proofs.extract_element.Tie as tie
 
 sub-at-requires : tie.Need-sub-at-requires
 sub-at-requires c κs = search needs

@@ -1,9 +1,9 @@
 use mathlib.Core.Path.{refl, _∙_}
 use native.Mathlib.Omega.{arith}
-use Rattle.class.specs.Class.{class-first, heritage-within, heritage-given, elements-given, none-left, sequence-given, some-left}
+use Rattle.classes.specs.Class.{class-first, heritage-within, heritage-given, elements-given, none-left, sequence-given, some-left}
 use borrow.Author.Needs.{needs}
-use Rattle.class.proofs.remove_unused_class.Statement.{statement}
-use Rattle.class.proofs.remove_unused_class.Tie as tie
+use Rattle.classes.proofs.remove_unused_class.Statement.{statement}
+use Rattle.classes.proofs.remove_unused_class.Tie as tie
 
 sub-at-requires : tie.Need-sub-at-requires
 sub-at-requires c κs = search needs

@@ -21,7 +21,7 @@ use Rattle.output.specs.Bytes.{agree-less}
 use Rattle.output.specs.Trees.{Wrote, wrote-none, wrote-both, wrote-over, wrote-as}
 use Rattle.output.specs.Given.{GivenList, GivenTree}
 use Rattle.rewrite.specs.Made.{GivenMade, Makes}
-use Rattle.class.specs.Extract.{GivenAtMostOne, CopiesFlagged, ExtractsElements, elements-size, first-given, first-wrote, first-ends}
+use Rattle.classes.specs.Extract.{GivenAtMostOne, CopiesFlagged, ExtractsElements, elements-size, first-given, first-wrote, first-ends}
 
 pub record GivenClass (s : List ℕ) (at size pos room : ℕ) : Type 0 where
   pub given : GivenTree s at size pos room
