@@ -1,7 +1,8 @@
 /* The C functions of libuxt.a, which `rt staticlib uxt` writes to target/staticlib/.
  *
- * The archive is for x86-64 Linux and needs nothing else to link. No function allocates, keeps state or
- * ends the program, and each may be called from several threads at once. 256 KB of stack are enough.
+ * The archive is for x86-64 Linux; to link it needs memcpy and memset, which every C library has, and nothing
+ * else. No function allocates, keeps state or ends the program, and each may be called from several threads at
+ * once. 256 KB of stack are enough.
  *
  * What the caller owes, and nothing checks: a pointer is not null and its length counts what it points
  * to, also where the length is 0; memory that a function writes to does not overlap what it reads.
@@ -18,6 +19,30 @@
 extern "C" {
 #endif
 
+/* What uxt_reduce and uxt_list_effects return holds the number of the refusal, 0 where there is none, and
+ * the length or the count. */
+#define UXT_NUMBER(answer) ((uint32_t)((answer) >> 32))
+#define UXT_LENGTH(answer) ((uint32_t)(answer))
+#define UXT_COUNT(answer) ((uint32_t)(answer))
+
+/* Reduces the tree file src to the file that stands for its effects, and writes that to out.
+ *
+ * src holds the whole file (docs/FORMAT.md). out needs 8 + 16 * (2 * N - 1) bytes, where N is the record
+ * count that bytes 6 and 7 of the file give, lower byte first; UXT_MOST_OUT are enough for every file. out
+ * must not overlap src: a tree cannot be reduced where it stands.
+ *
+ * Returns the number of the refusal, 0 where there is none, times 2^32, plus the length of the file written
+ * in bytes. The length is 0 where there is a refusal, and where the tree is removable: nothing of it need
+ * stay. The first bytes of out are the file, with the settings of src, and all others keep what they held;
+ * where the length is 0 all do. Refused with 1 to 8 for a fault of the file, under Reduce's limits of 2,000
+ * records and 64 levels; with 9 where out_len is under the need.
+ *
+ * The file written has at most 2 * N - 1 records and at most one level more than src. uxt_list_effects takes
+ * every such file; uxt_reduce only those within its own limits. */
+#define UXT_MOST_OUT 63992
+
+uint64_t uxt_reduce(const uint8_t *src, size_t src_len, uint8_t *out, size_t out_len);
+
 /* Lists the effects of the tree file src in entries, in ECMA-262's order, repeats kept.
  *
  * src holds the whole file (docs/FORMAT.md). entries needs room for twice the record count that bytes 6
@@ -29,8 +54,6 @@ extern "C" {
  * where entries_len is under twice the record count. Then all entries keep what they held.
  *
  * An entry is place * 512 + kind * 2, plus 1 if it is a coercion. */
-#define UXT_NUMBER(answer) ((uint32_t)((answer) >> 32))
-#define UXT_COUNT(answer) ((uint32_t)(answer))
 #define UXT_MOST_ENTRIES 7998
 #define UXT_PLACE(entry) ((uint32_t)((entry) >> 9))
 #define UXT_KIND(entry) ((uint8_t)((entry) >> 1))

@@ -21,6 +21,22 @@ fn size(file: &[u8], i: usize) -> usize {
     u16::from_le_bytes([record(file, i)[6], record(file, i)[7]]).into()
 }
 
+/// The file has as many bytes as its header's record count calls for.
+pub fn is_whole(file: &[u8]) -> bool {
+    file.len() >= HEADER && file.len() == HEADER + RECORD * count(file)
+}
+
+/// The files of an input, each of which stands behind its length in two bytes. One that is cut
+/// short ends the input.
+pub fn framed(mut input: &[u8]) -> impl Iterator<Item = &[u8]> {
+    std::iter::from_fn(move || {
+        let (length, rest) = input.split_first_chunk::<2>()?;
+        let (file, rest) = rest.split_at_checked(u16::from_le_bytes(*length).into())?;
+        input = rest;
+        Some(file)
+    })
+}
+
 /// The least output length for Reduce: "8 + 16 × (2 × N − 1)".
 pub fn output_room(file: &[u8]) -> usize {
     HEADER + RECORD * (2 * count(file) - 1)

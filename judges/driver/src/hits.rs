@@ -161,9 +161,19 @@ impl Hits {
 
 /// The outcomes that reducing this tree comes to.
 pub fn of_tree(tree: Tree, marks: &Marks) -> Hits {
-    let mut counter = Counter { tree, marks, hits: Hits::default() };
+    counted(tree, marks).hits
+}
+
+/// How many expressions and properties reducing this tree comes to. The rest is kept or dropped
+/// with a node above it.
+pub fn reached(tree: Tree, marks: &Marks) -> usize {
+    counted(tree, marks).reached
+}
+
+fn counted<'a>(tree: Tree<'a>, marks: &'a Marks) -> Counter<'a> {
+    let mut counter = Counter { tree, marks, hits: Hits::default(), reached: 0 };
     counter.expression(0);
-    counter.hits
+    counter
 }
 
 /// Goes where the reduction goes.
@@ -171,6 +181,7 @@ struct Counter<'a> {
     tree: Tree<'a>,
     marks: &'a Marks,
     hits: Hits,
+    reached: usize,
 }
 
 impl Counter<'_> {
@@ -181,6 +192,7 @@ impl Counter<'_> {
     }
 
     fn expression(&mut self, i: usize) {
+        self.reached += 1;
         let kept = self.marks.is_kept(i);
         match self.tree.kind(i) {
             kind::STRING_LITERAL => self.hits.hit(Hit::LiteralRemoved),
@@ -311,6 +323,7 @@ impl Counter<'_> {
             }
             self.hits.hit_if(waiting, Hit::ObjectFlushedAtProperty);
             waiting = false;
+            self.reached += 1;
             let keyed = tree.sub(child) == sub::KEY_AND_VALUE;
             self.hits.hit_if(keyed && self.marks.is_kept(child + 1), Hit::ObjectKeyKept);
             self.expressions(tree.children(child));

@@ -6,6 +6,7 @@ use crate::damage::Damaged;
 use crate::file;
 use crate::hits::{self, Hits};
 use crate::oracle::Oracle;
+use crate::random::Random;
 use crate::side::{Answer, Listing, Reduction, Side};
 
 /// What was seen to differ, or a promise that was not kept.
@@ -17,7 +18,31 @@ pub struct Judge<'s> {
     oracle: Option<Oracle>,
     /// Accepted files and the first side's answers, for the oracle.
     waiting: (Vec<Vec<u8>>, Vec<Vec<u8>>),
+    bytes: Filler<u8>,
+    entries: Filler<u64>,
     pub tally: Tally,
+}
+
+/// What is in the outputs and entries when they are lent. It changes from place to place and from
+/// call to call, so that what a side moves past its answer shows as well as what it writes there,
+/// and no answer can be made of what was there.
+struct Filler<T>(Vec<T>);
+
+/// More than a run ever lends at once.
+const LENT: usize = 1 << 18;
+
+impl<T: Copy> Filler<T> {
+    fn new(drawn: impl Fn(u64) -> T) -> Filler<T> {
+        let mut random = Random::new(0);
+        Filler((0..LENT).map(|_| drawn(random.draw())).collect())
+    }
+
+    /// As many as are lent, from another start at each turn.
+    fn part(&self, turn: u64, room: usize) -> &[T] {
+        let starts = (LENT - room) as u64;
+        let start = turn.wrapping_mul(0x9e37_79b9) % starts;
+        &self.0[start as usize..][..room]
+    }
 }
 
 /// What a run has met.
@@ -27,9 +52,15 @@ pub struct Tally {
     pub checks: u64,
     pub trees: u64,
     pub damaged: u64,
+    /// Damaged files that Reduce refused, and those that List effects refused.
+    pub refused_reductions: u64,
+    pub refused_lists: u64,
     pub oracle_trees: u64,
-    /// Lists of another side that were held to the first's, and the entries lent for them: all
-    /// are compared, also those after the list.
+    /// Reductions of another side that were held to the first's, refused ones too, and the bytes
+    /// lent for them: all are compared, also those after the answer.
+    pub reductions: u64,
+    pub bytes: u64,
+    /// The same for lists and their entries.
     pub lists: u64,
     pub entries: u64,
     pub premise_true: u64,
@@ -46,7 +77,14 @@ const BATCH: usize = 256;
 
 impl<'s> Judge<'s> {
     pub fn new(sides: &'s [&'s dyn Side], oracle: Option<Oracle>) -> Self {
-        Judge { sides, oracle, waiting: Default::default(), tally: Tally::default() }
+        Judge {
+            sides,
+            oracle,
+            waiting: Default::default(),
+            bytes: Filler::new(|drawn| drawn as u8),
+            entries: Filler::new(|drawn| drawn),
+            tally: Tally::default(),
+        }
     }
 
     /// One check: `held`, or the words that say what was seen.
@@ -141,6 +179,8 @@ impl<'s> Judge<'s> {
             let list = if case.list > 8 { 0 } else { case.list };
             self.checked(&case.file, case.reduce, list)?;
         }
+        self.tally.refused_reductions += u64::from(case.reduce != 0);
+        self.tally.refused_lists += u64::from(case.list != 0);
         self.tally.refused[case.reduce as usize] += 1;
         if case.list != case.reduce {
             self.tally.refused[case.list as usize] += 1;
@@ -159,40 +199,45 @@ impl<'s> Judge<'s> {
         Ok(())
     }
 
-    /// Every side that offers it reduces the file into as many bytes, and all answer alike.
-    /// Answers with the bytes written.
+    /// Every side reduces the file into as many bytes, and all answer alike. Answers with the bytes
+    /// written.
     fn reduce(&mut self, file: &[u8], room: usize) -> Result<(Reduction, Vec<u8>), Difference> {
-        let filler = 0xa5 ^ self.tally.checks as u8;
         let mut first: Option<(Reduction, Vec<u8>)> = None;
         for &side in self.sides {
-            let mut out = vec![filler; room];
-            let Some(reduction) = side.reduce(file, &mut out) else { continue };
+            let filler = self.bytes.part(self.tally.checks, room);
+            let mut out = filler.to_vec();
+            let reduction = side.reduce(file, &mut out);
             let name = side.name();
-            let untouched =
-                reduction.length <= room && out[reduction.length..].iter().all(|&b| b == filler);
+            let length = reduction.length;
+            let untouched = length <= room && out[length..] == filler[length..];
             self.check(untouched, || format!("{name} wrote past its answer: {reduction:?}"))?;
             out.truncate(reduction.length);
             match &first {
                 None => first = Some((reduction, out)),
                 Some(other) => {
                     let same = *other == (reduction, out.clone());
-                    self.check(same, || reduced_otherwise(name, &out, &other.1))?;
+                    self.check(same, || {
+                        let answers = reduced_otherwise(name, &out, &other.1);
+                        format!("{name} {reduction:?}, the first side {:?}: {answers}", other.0)
+                    })?;
+                    self.tally.reductions += 1;
+                    self.tally.bytes += room as u64;
                 }
             }
         }
-        Ok(first.expect("a side that reduces"))
+        Ok(first.expect("a side"))
     }
 
     /// The same for List effects.
     fn list(&mut self, file: &[u8], room: usize) -> Result<(Listing, Vec<u64>), Difference> {
-        let filler = 0x5a5a_5a5a_5a5a_5a5a ^ self.tally.checks;
         let mut first: Option<(Listing, Vec<u64>)> = None;
         for &side in self.sides {
-            let mut entries = vec![filler; room];
+            let filler = self.entries.part(self.tally.checks, room);
+            let mut entries = filler.to_vec();
             let listing = side.list_effects(file, &mut entries);
             let name = side.name();
-            let untouched =
-                listing.count <= room && entries[listing.count..].iter().all(|&e| e == filler);
+            let count = listing.count;
+            let untouched = count <= room && entries[count..] == filler[count..];
             self.check(untouched, || format!("{name} wrote past its list: {listing:?}"))?;
             entries.truncate(listing.count);
             match &first {
@@ -264,7 +309,10 @@ impl<'s> Judge<'s> {
 }
 
 fn reduced_otherwise(name: &str, out: &[u8], other: &[u8]) -> String {
-    let shown =
-        |file: &[u8]| if file.is_empty() { "nothing\n".to_string() } else { file::show(file) };
+    let shown = |file: &[u8]| match file::is_whole(file) {
+        _ if file.is_empty() => "nothing\n".to_string(),
+        true => file::show(file),
+        false => format!("{file:?}\n"),
+    };
     format!("{name} answers {}where the first side answers {}", shown(out), shown(other))
 }

@@ -13,6 +13,7 @@ pub mod library;
 pub mod listings;
 pub mod oracle;
 pub mod random;
+pub mod reduced;
 pub mod reductions;
 pub mod rows;
 pub mod run;

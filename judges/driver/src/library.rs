@@ -11,25 +11,30 @@ impl Side for Library {
         "library"
     }
 
-    fn reduce(&self, _: &[u8], _: &mut [u8]) -> Option<Reduction> {
-        None
+    fn reduce(&self, file: &[u8], out: &mut [u8]) -> Reduction {
+        let reduced = library::reduce(file, out);
+        Reduction { number: byte(reduced.number()), length: reduced.value() as usize }
     }
 
     fn list_effects(&self, file: &[u8], entries: &mut [u64]) -> Listing {
         let listed = library::list_effects(file, entries);
-        let number = u8::try_from(listed.number()).expect("a refusal's number is a byte");
-        Listing { number, count: listed.count() as usize }
+        Listing { number: byte(listed.number()), count: listed.value() as usize }
     }
 
     fn derived(&self, scopes: &[u8], ancestors: &[u8]) -> Answer {
         match library::derived(scopes, ancestors) {
             0 => Answer::No,
             1 => Answer::Yes,
-            number => Answer::Refused(u8::try_from(number).expect("a refusal's number is a byte")),
+            number => Answer::Refused(byte(number)),
         }
     }
 
     fn check(&self, _: &[u8], _: Limits) -> Option<u8> {
         None
     }
+}
+
+/// A refusal's number.
+fn byte(number: u64) -> u8 {
+    u8::try_from(number).expect("a refusal's number is a byte")
 }

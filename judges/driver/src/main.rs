@@ -7,6 +7,7 @@ use driver::judge::{Judge, Tally};
 use driver::library::Library;
 use driver::listings;
 use driver::oracle::Oracle;
+use driver::reduced;
 use driver::reductions;
 use driver::run;
 use driver::side::{Port, Side};
@@ -25,7 +26,9 @@ driver fixed --oracle PATH [--seed S] FILE
 driver listings                           the effects of the files on standard input, as the
                                           program listings prints them
 driver reductions                         what is left of them, as the program reductions prints it
-driver speed [--seed S]                   nanoseconds a record";
+driver reduced                            a line for each of the files on standard input: the
+                                          port's number, length and hash of what Reduce writes
+driver speed [--seed S] [--oracle PATH]   nanoseconds a record";
 
 const BRIEF_TREES: u64 = 200_000;
 
@@ -46,8 +49,9 @@ fn main() -> ExitCode {
         "run" => run(&arguments),
         "replay" => replay(&arguments),
         "fixed" => make_fixed_list(&arguments),
-        "listings" => input().map(|input| listings::text(&Port, &input)),
-        "reductions" => input().map(|input| reductions::text(&Port, &input)),
+        "listings" => Ok(listings::text(&Port, &input()?)),
+        "reduced" => Ok(reduced::text(&Port, &input()?)),
+        "reductions" => Ok(reductions::text(&Port, &input()?)),
         "speed" => measure(&arguments),
         _ => Err(HELP.to_string()),
     });
@@ -128,10 +132,11 @@ fn report(tally: &Tally, arguments: &Arguments, listed: usize, questions: u64) {
     }
     for side in &SIDES[1..] {
         println!("  held to the port: {}", side.name());
+        println!("    {} reductions, {} bytes, 0 different", tally.reductions, tally.bytes);
+        println!("    {} lists, {} entries, 0 different", tally.lists, tally.entries);
     }
-    if tally.lists > 0 {
-        println!("  {} lists, {} entries compared, 0 different", tally.lists, tally.entries);
-    }
+    let (reduce, list) = (tally.refused_reductions, tally.refused_lists);
+    println!("  of the damaged files, {reduce} refused by Reduce, {list} by List effects");
     let refused: u64 = tally.refused[1..].iter().sum();
     println!("  {refused} refusals by number 1 to 12: {:?}", &tally.refused[1..]);
     let rarest = HITS.iter().min_by_key(|&&(hit, _)| tally.hits.count(hit));
@@ -173,16 +178,59 @@ fn input() -> Result<Vec<u8>, String> {
 }
 
 fn measure(arguments: &Arguments) -> Result<String, String> {
-    println!("nanoseconds a record, median of {} rounds", speed::ROUNDS);
+    println!(
+        "seed {}, nanoseconds a record, of each group of files the median of {} rounds",
+        arguments.seed,
+        speed::ROUNDS
+    );
+    let mut oracle = start_oracle(arguments)?;
+    println!("Reduce, on trees to most of whose records it comes");
+    for records in [10, 40, 200, 260, 2_000] {
+        measure_reduce(records, arguments.seed, oracle.as_mut()).map_err(|e| e.to_string())?;
+    }
+    println!("on trees as they are drawn");
     for records in [10, 200, 2_000, 3_999] {
-        let files = speed::files(records, arguments.seed);
-        println!("{} files of {records} records", files.len());
-        for (side, measured) in SIDES.iter().zip(speed::measure(SIDES, &files)) {
-            let [check, reduce, list] = [measured.check, measured.reduce, measured.list]
-                .map(|time| time.map_or("-".to_string(), |time| format!("{time:.1}")));
-            let name = side.name();
-            println!("  {name:8} check {check:>5}  Reduce {reduce:>5}  List effects {list:>5}");
-        }
+        measure_as_drawn(records, arguments.seed);
+    }
+    if let Some(oracle) = oracle {
+        oracle.stop().map_err(|error| error.to_string())?;
     }
     Ok("judges: measured\n".to_string())
+}
+
+fn measure_reduce(records: usize, seed: u64, oracle: Option<&mut Oracle>) -> io::Result<()> {
+    let files = speed::walked_files(records, seed);
+    let (reached, written) = speed::walked(&files, &Port);
+    println!(
+        "  {} files of {records} records: {:.0} % reached, {:.0} % as many written",
+        files.len(),
+        100.0 * reached,
+        100.0 * written
+    );
+    if reached < 0.5 {
+        return Err(io::Error::other("most records are not reached"));
+    }
+    let (times, oracle) = speed::reduce(SIDES, oracle, &files)?;
+    for (side, time) in SIDES.iter().zip(times) {
+        println!("    {:8} Reduce {:>5}", side.name(), shown(time));
+    }
+    if let Some(speed::OracleMeasured { read, handlers, write, all }) = oracle {
+        print!("    oracle   Reduce {all:>5.1}: handlers {handlers:.1}, ");
+        println!("the file read into a tree {read:.1}, the answer written {write:.1}");
+    }
+    Ok(())
+}
+
+fn measure_as_drawn(records: usize, seed: u64) {
+    let files = speed::files(records, seed);
+    println!("  {} files of {records} records", files.len());
+    for (side, measured) in SIDES.iter().zip(speed::measure(SIDES, &files)) {
+        let [check, reduce, list] = [measured.check, measured.reduce, measured.list].map(shown);
+        let name = side.name();
+        println!("    {name:8} Reduce {reduce:>5}  List effects {list:>5}  check {check:>5}");
+    }
+}
+
+fn shown(time: Option<f64>) -> String {
+    time.map_or("-".to_string(), |time| format!("{time:.1}"))
 }

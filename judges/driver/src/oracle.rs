@@ -32,6 +32,23 @@ impl Oracle {
         Ok(file)
     }
 
+    /// For each group of so many files the nanoseconds that the oracle takes, by its own clock, to
+    /// read them into trees, to run the published handlers on them, and to write the answers.
+    pub fn time(&mut self, files: &[Vec<u8>], group: usize) -> io::Result<Vec<[f64; 3]>> {
+        self.send(&[b"T", &(group as u32).to_le_bytes()[..], &framed(files)].concat())?;
+        files.chunks(group).map(|_| self.three_times()).collect()
+    }
+
+    fn three_times(&mut self) -> io::Result<[f64; 3]> {
+        let mut times = [0.0; 3];
+        for time in &mut times {
+            let mut nanoseconds = [0; 8];
+            self.answers.read_exact(&mut nanoseconds)?;
+            *time = u64::from_le_bytes(nanoseconds) as f64;
+        }
+        Ok(times)
+    }
+
     /// The Derived question for each pair of scopes and ancestors, none with a refused byte.
     pub fn derived(&mut self, questions: &[(Vec<u8>, Vec<u8>)]) -> io::Result<Vec<bool>> {
         let mut request = vec![b'D'];
@@ -79,11 +96,15 @@ impl Oracle {
 }
 
 fn reduce_request(files: &[Vec<u8>]) -> Vec<u8> {
-    let mut request = vec![b'R'];
-    request.extend((files.len() as u32).to_le_bytes());
+    [b"R", &framed(files)[..]].concat()
+}
+
+/// The number of the files, then each behind its length.
+fn framed(files: &[Vec<u8>]) -> Vec<u8> {
+    let mut framed = (files.len() as u32).to_le_bytes().to_vec();
     for file in files {
-        request.extend((file.len() as u32).to_le_bytes());
-        request.extend(file);
+        framed.extend((file.len() as u32).to_le_bytes());
+        framed.extend(file);
     }
-    request
+    framed
 }

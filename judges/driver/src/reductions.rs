@@ -12,12 +12,11 @@ pub fn text(side: &dyn Side, mut input: &[u8]) -> String {
     while let Some((case, rest)) = split(input) {
         input = rest;
         let mut out = vec![case.fill; case.lent];
-        if let Some(reduction) = side.reduce(case.file, &mut out) {
-            text += &answer(reduction, &out);
-            let tail = &out[reduction.length..];
-            let changed = tail.iter().filter(|&&byte| byte != case.fill).count();
-            text += &format!("tail {} {changed}\n", tail.len());
-        }
+        let reduction = side.reduce(case.file, &mut out);
+        text += &answer(reduction, &out);
+        let tail = &out[reduction.length..];
+        let changed = tail.iter().filter(|&&byte| byte != case.fill).count();
+        text += &format!("tail {} {changed}\n", tail.len());
     }
     text
 }

@@ -30,8 +30,7 @@ pub enum Answer {
 pub trait Side {
     fn name(&self) -> &str;
 
-    /// None, if the side does not offer it. The first side does.
-    fn reduce(&self, file: &[u8], out: &mut [u8]) -> Option<Reduction>;
+    fn reduce(&self, file: &[u8], out: &mut [u8]) -> Reduction;
 
     fn list_effects(&self, file: &[u8], entries: &mut [u64]) -> Listing;
 
@@ -48,12 +47,12 @@ impl Side for Port {
         "port"
     }
 
-    fn reduce(&self, file: &[u8], out: &mut [u8]) -> Option<Reduction> {
-        Some(match port::reduce(file, out) {
+    fn reduce(&self, file: &[u8], out: &mut [u8]) -> Reduction {
+        match port::reduce(file, out) {
             Reduced::Refused(number) => Reduction { number, length: 0 },
             Reduced::Removable => Reduction { number: 0, length: 0 },
             Reduced::Kept(length) => Reduction { number: 0, length },
-        })
+        }
     }
 
     fn list_effects(&self, file: &[u8], entries: &mut [u64]) -> Listing {

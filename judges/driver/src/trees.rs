@@ -3,6 +3,7 @@
 
 use port::{Limits, element, kind, sub};
 
+use crate::file;
 use crate::random::Random;
 
 /// A file that Reduce takes.
@@ -29,6 +30,52 @@ pub fn wide_file(random: &mut Random, records: usize) -> Vec<u8> {
     grower.exactly(records);
     grower.file()
 }
+
+/// A file of exactly `records` records, to most of which the reduction comes: half of what can be
+/// flagged is, and most nodes that are kept or dropped with much under them are made others that have
+/// the same children.
+pub fn walked_file(random: &mut Random, records: usize) -> Vec<u8> {
+    let mut grower = Grower::new(random);
+    grower.temper.flag = 128;
+    if grower.temper.focus == kind::CLASS {
+        grower.temper.focus = kind::SEQUENCE;
+    }
+    grower.exactly(records);
+    let mut file = grower.file();
+    for (i, (parent, _)) in file::parents_and_depths(&file).into_iter().enumerate() {
+        let under = parent.map_or(0, |parent| file::record(&file, parent)[0]);
+        let head = walked(random, &file, i, under);
+        file::record_mut(&mut file, i)[..3].copy_from_slice(&head);
+    }
+    file
+}
+
+/// Kind, facts and sub of record `i`, which stands under a node of kind `under`, so that the
+/// reduction goes on to its children.
+fn walked(random: &mut Random, file: &[u8], i: usize, under: u8) -> [u8; 3] {
+    let record = file::record(file, i);
+    let [kind, mut facts, sub] = [record[0], record[1], record[2]];
+    let takes_facts =
+        !matches!(kind, kind::ELISION | kind::SPREAD | kind::PROPERTY | kind::ELEMENT);
+    // No symbol: such a one does not wait in a template.
+    if takes_facts && random.chance(224) {
+        facts = facts & !6 | 2;
+    }
+    let callee_is_leaf = || file::record(file, i + 1)[0] <= kind::THIS;
+    match kind {
+        kind::UNARY if sub == sub::OTHER_UNARY => [kind, facts, sub::NOT],
+        kind::BINARY if random.chance(192) => [kind, facts, sub::COMPARISON],
+        kind::CALL | kind::NEW if callee_is_leaf() => [kind, facts | LISTED, sub],
+        kind::CALL | kind::NEW => [kind::ARRAY, facts & 31, 0],
+        kind::SPREAD if random.chance(64) => [kind, facts, sub],
+        kind::SPREAD if under == kind::OBJECT => [kind::PROPERTY, 0, 0],
+        kind::SPREAD => [kind::UNARY, facts, sub::VOID],
+        _ => [kind, facts, sub],
+    }
+}
+
+/// The bit of a call's or new's facts that makes it pure under all settings.
+const LISTED: u8 = 64;
 
 /// A file whose tree is exactly `depth` deep.
 pub fn deep_file(random: &mut Random, depth: usize) -> Vec<u8> {

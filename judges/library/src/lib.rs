@@ -1,6 +1,8 @@
 //! The proved library's C functions, as `include/uxt.h` of the repository declares them.
 
 unsafe extern "C" {
+    fn uxt_reduce(src: *const u8, src_len: usize, out: *mut u8, out_len: usize) -> u64;
+
     fn uxt_list_effects(
         src: *const u8,
         src_len: usize,
@@ -16,7 +18,7 @@ unsafe extern "C" {
     ) -> u64;
 }
 
-/// The refusal's number (0: none) times 2^32, plus the count.
+/// The refusal's number (0: none) times 2^32, plus a length or a count.
 pub struct Packed(u64);
 
 impl Packed {
@@ -24,12 +26,18 @@ impl Packed {
         self.0 >> 32
     }
 
-    pub fn count(&self) -> u64 {
+    pub fn value(&self) -> u64 {
         self.0 & 0xffff_ffff
     }
 }
 
-/// The count is that of the entries written.
+/// The value is the length of the file written; 0, if the tree is removable.
+pub fn reduce(file: &[u8], out: &mut [u8]) -> Packed {
+    // SAFETY: each pointer comes with the length of its slice, and the two do not overlap.
+    Packed(unsafe { uxt_reduce(file.as_ptr(), file.len(), out.as_mut_ptr(), out.len()) })
+}
+
+/// The value is the count of the entries written.
 pub fn list_effects(file: &[u8], entries: &mut [u64]) -> Packed {
     // SAFETY: each pointer comes with the length of its slice, and the two do not overlap.
     Packed(unsafe {

@@ -5,6 +5,9 @@
 //!
 //! - `R`, a 32-bit count, then that many tree files, each behind its 32-bit length: for each, the
 //!   32-bit length of the reduced file and the file; length 0 if the tree is removable.
+//! - `T`, a 32-bit number of files that make a group, then count and files as for `R`: for each
+//!   group three 64-bit numbers, the nanoseconds that it took to read its files into trees, that the
+//!   handlers took on the trees, and that it took to write the answers.
 //! - `D`, a 32-bit count, then that many pairs of lists, scopes and ancestors, each behind its
 //!   length in a byte: for each pair a byte, 1 for yes and 0 for no.
 //!
@@ -60,8 +63,11 @@ pub mod symbol_value {
     }
 }
 
+use oxc_ast::ast::Expression;
 use peephole::PeepholeOptimizations;
+use std::hint::black_box;
 use std::io::{self, BufReader, Read, Write};
+use std::time::{Duration, Instant};
 
 fn main() -> io::Result<()> {
     let mut input = BufReader::new(io::stdin().lock());
@@ -69,7 +75,8 @@ fn main() -> io::Result<()> {
     let mut operation = [0];
     while input.read(&mut operation)? == 1 {
         let answers = match operation[0] {
-            b'R' => reductions(&mut input)?,
+            b'R' => reductions(&files(&mut input)?),
+            b'T' => times(number(&mut input)?, &files(&mut input)?),
             b'D' => derived_answers(&mut input)?,
             other => panic!("no operation {other}"),
         };
@@ -79,26 +86,56 @@ fn main() -> io::Result<()> {
     Ok(())
 }
 
-fn reductions(input: &mut impl Read) -> io::Result<Vec<u8>> {
+fn files(input: &mut impl Read) -> io::Result<Vec<Vec<u8>>> {
+    let count = number(input)?;
+    (0..count)
+        .map(|_| {
+            let length = number(input)?;
+            bytes(input, length)
+        })
+        .collect()
+}
+
+fn reductions(files: &[Vec<u8>]) -> Vec<u8> {
     let mut answers = Vec::new();
-    for _ in 0..number(input)? {
-        let length = number(input)?;
-        let file = bytes(input, length)?;
-        let answer = reduce(&file);
+    for file in files {
+        let (mut tree, mut ctx) = decode::tree(file);
+        let removable = PeepholeOptimizations::remove_unused_expression(&mut tree, &mut ctx);
+        let answer = answer(file, &tree, removable);
         answers.extend((answer.len() as u32).to_le_bytes());
         answers.extend(answer);
     }
-    Ok(answers)
+    answers
 }
 
 /// The reduced file; empty if the tree is removable.
-fn reduce(file: &[u8]) -> Vec<u8> {
-    let (mut tree, mut ctx) = decode::tree(file);
-    if PeepholeOptimizations::remove_unused_expression(&mut tree, &mut ctx) {
-        Vec::new()
-    } else {
-        encode::file(file[5], &tree)
-    }
+fn answer(file: &[u8], tree: &Expression, removable: bool) -> Vec<u8> {
+    if removable { Vec::new() } else { encode::file(file[5], tree) }
+}
+
+/// Goes through the files, so many at a time.
+fn times(group: u32, files: &[Vec<u8>]) -> Vec<u8> {
+    let times = files.chunks(group as usize).flat_map(steps);
+    times.flat_map(|time| (time.as_nanos() as u64).to_le_bytes()).collect()
+}
+
+/// What each step takes on all files. Trees and answers are dropped outside of the times, but what
+/// the handlers themselves drop is in theirs.
+fn steps(files: &[Vec<u8>]) -> [Duration; 3] {
+    let start = Instant::now();
+    let mut trees: Vec<_> = files.iter().map(|file| decode::tree(file)).collect();
+    let read = Instant::now();
+    let removable: Vec<bool> = trees
+        .iter_mut()
+        .map(|(tree, ctx)| PeepholeOptimizations::remove_unused_expression(tree, ctx))
+        .collect();
+    let reduced = Instant::now();
+    let kept = files.iter().zip(&trees).zip(removable);
+    let answers: Vec<_> =
+        kept.map(|((file, (tree, _)), removable)| answer(file, tree, removable)).collect();
+    let written = Instant::now();
+    black_box(answers);
+    [read - start, reduced - read, written - reduced]
 }
 
 fn derived_answers(input: &mut impl Read) -> io::Result<Vec<u8>> {
