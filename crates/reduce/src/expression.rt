@@ -37,6 +37,34 @@ fn reduce_children(
     Walked { slot, next }
 }
 
+// The same by the part: each loop has its own, and no child asks which it is.
+fn reduce_list(
+    src: &[u8],
+    at: usize,
+    size: usize,
+    part: Part,
+    depth: usize,
+    settings: u8,
+    out: &mut [u8],
+    pos: usize,
+) -> Walked
+    requires { ⌜ GivenChildren (now src) at size depth pos (length (now out)) ⌝ }
+    ensures { λ r. ⌜ ReducedChildren (now (src .entry)) at size depth (settingsWith settings) part (now (out .entry)) (now (out .exit)) pos pos (r .slot) (r .next) ⌝ }
+{
+    match part {
+        Part::InOrder => {
+            reduce_children(src, at, size, Part::InOrder, depth, settings, out, pos)
+        }
+        Part::Argument => {
+            reduce_children(src, at, size, Part::Argument, depth, settings, out, pos)
+        }
+        Part::Template => {
+            reduce_children(src, at, size, Part::Template, depth, settings, out, pos)
+        }
+        Part::Object => reduce_children(src, at, size, Part::Object, depth, settings, out, pos),
+    }
+}
+
 // One child, behind those that are settled and those that wait.
 fn reduce_child(
     src: &[u8],
@@ -89,7 +117,7 @@ pub fn remove_unused_expression(
         }
         Outcome::Rewritten(rewrite) => {
             let part = walk::part_of(rewrite);
-            let left = reduce_children(src, first, rest, part, below, settings, out, pos + 1);
+            let left = reduce_list(src, first, rest, part, below, settings, out, pos + 1);
             close::close_list(src, at, rewrite, out, pos, left.slot, left.next)
         }
         Outcome::Arguments => {

@@ -1,3 +1,4 @@
+use mathlib.Core.Path.{sym}
 use Rattle.handlers.specs.declared.outcome.Outcome.the-variants.{Removable, Unchanged, Unwrapped, Rewritten, Arguments, Addition, Class}
 use Rattle.reduce.specs.Walked.{partOf}
 use Rattle.reduce.specs.Children.{Walking, walk-start, walk-done, walk-subtree, child-some, child-within, child-given, walk-on, walked-as}
@@ -14,13 +15,16 @@ use borrow.Fn.Kinds.{In}
 use borrow.Fn.PlainCycle.{Measures, is, falls, and}
 use Rattle.reduce.proofs.expression.reduce_child.Reads as reduce-child
 use Rattle.reduce.proofs.expression.reduce_child.Kinds as reduce-child-kinds
-use Rattle.reduce.proofs.expression.+reduce_child+reduce_children+remove_unused_expression.Lts-reduce_child as reduce-child-lts
+use Rattle.reduce.proofs.expression.+reduce_child+reduce_children+reduce_list+remove_unused_expression.Lts-reduce_child as reduce-child-lts
 use Rattle.reduce.proofs.expression.reduce_children.Reads as reduce-children
 use Rattle.reduce.proofs.expression.reduce_children.Kinds as reduce-children-kinds
-use Rattle.reduce.proofs.expression.+reduce_child+reduce_children+remove_unused_expression.Lts-reduce_children as reduce-children-lts
+use Rattle.reduce.proofs.expression.+reduce_child+reduce_children+reduce_list+remove_unused_expression.Lts-reduce_children as reduce-children-lts
+use Rattle.reduce.proofs.expression.reduce_list.Reads as reduce-list
+use Rattle.reduce.proofs.expression.reduce_list.Kinds as reduce-list-kinds
+use Rattle.reduce.proofs.expression.+reduce_child+reduce_children+reduce_list+remove_unused_expression.Lts-reduce_list as reduce-list-lts
 use Rattle.reduce.proofs.expression.remove_unused_expression.Reads as remove-unused-expression
 use Rattle.reduce.proofs.expression.remove_unused_expression.Kinds as remove-unused-expression-kinds
-use Rattle.reduce.proofs.expression.+reduce_child+reduce_children+remove_unused_expression.Lts-remove_unused_expression as remove-unused-expression-lts
+use Rattle.reduce.proofs.expression.+reduce_child+reduce_children+reduce_list+remove_unused_expression.Lts-remove_unused_expression as remove-unused-expression-lts
 use Rattle.addition.proofs.remove_unused_addition.Reads as remove-unused-addition-reads
 use Rattle.classes.proofs.remove_unused_class.Reads as remove-unused-class-reads
 use Rattle.fields.proofs.subtree_at.Reads as subtree-at-reads
@@ -35,10 +39,10 @@ use Rattle.reduce.proofs.walk.wraps_at.Reads as wraps-at-reads
 use Rattle.rewrite.proofs.none_one_several.Reads as none-one-several-reads
 use Rattle.rewrite.proofs.hold.Reads as hold-reads
 use Rattle.rewrite.proofs.wrap_spread.Reads as wrap-spread-reads
-use Rattle.reduce.proofs.expression.+reduce_child+reduce_children+remove_unused_expression.{
+use Rattle.reduce.proofs.expression.+reduce_child+reduce_children+reduce_list+remove_unused_expression.{
   statement,
 }
-use Rattle.reduce.proofs.expression.+reduce_child+reduce_children+remove_unused_expression.Tie.{
+use Rattle.reduce.proofs.expression.+reduce_child+reduce_children+reduce_list+remove_unused_expression.Tie.{
   close,
 }
 
@@ -47,6 +51,9 @@ abbrev μ-reduce-child : Measures 2 reduce-child-kinds.ps ℕ
 
 abbrev μ-reduce-children : Measures 2 reduce-children-kinds.ps ℕ
 μ-reduce-children κs a = a .1 .1 .1 .1 .0 * 1048576 + a .1 .1 .0 * 8 + 3
+
+abbrev μ-reduce-list : Measures 2 reduce-list-kinds.ps ℕ
+μ-reduce-list κs a = a .1 .1 .1 .1 .0 * 1048576 + a .1 .1 .0 * 8 + 4
 
 abbrev μ-remove-unused-expression : Measures 2 remove-unused-expression-kinds.ps ℕ
 μ-remove-unused-expression κs a = a .1 .1 .1 .0 * 1048576 + a .1 .1 .0 * 8 + 1
@@ -79,6 +86,14 @@ reduce-children-below t =
     (falls 2 reduce-children-kinds.ps _<_ μ-reduce-children t)
     reduce-children.Pre
 
+abbrev reduce-list-at : ℕ → In 2 reduce-list-kinds.ps
+reduce-list-at t =
+    and 2 reduce-list-kinds.ps (is 2 reduce-list-kinds.ps μ-reduce-list t) reduce-list.Pre
+
+abbrev reduce-list-below : ℕ → In 2 reduce-list-kinds.ps
+reduce-list-below t =
+    and 2 reduce-list-kinds.ps (falls 2 reduce-list-kinds.ps _<_ μ-reduce-list t) reduce-list.Pre
+
 abbrev remove-unused-expression-at : ℕ → In 2 remove-unused-expression-kinds.ps
 remove-unused-expression-at t =
     and
@@ -101,8 +116,11 @@ reduce-child-calls t = (waits-at-reads.Asked, waits-at-reads.Learnt, hold-reads.
 abbrev reduce-children-calls : ℕ → reduce-children-lts.Claims
 reduce-children-calls t = (subtree-at-reads.Asked, subtree-at-reads.Learnt, reduce-child-below t, reduce-child.Post)
 
+abbrev reduce-list-calls : ℕ → reduce-list-lts.Claims
+reduce-list-calls t = (reduce-children-below t, reduce-children.Post)
+
 abbrev remove-unused-expression-calls : ℕ → remove-unused-expression-lts.Claims
-remove-unused-expression-calls t = (handle-reads.Asked, handle-reads.Learnt, copy-tree-reads.Asked, copy-tree-reads.Learnt, reduce-children-below t, reduce-children.Post, part-of-reads.Asked, part-of-reads.Learnt, close-list-reads.Asked, close-list-reads.Learnt, first-size-reads.Asked, first-size-reads.Learnt, none-one-several-reads.Asked, none-one-several-reads.Learnt, remove-unused-addition-reads.Asked, remove-unused-addition-reads.Learnt, remove-unused-class-reads.Asked, remove-unused-class-reads.Learnt)
+remove-unused-expression-calls t = (handle-reads.Asked, handle-reads.Learnt, copy-tree-reads.Asked, copy-tree-reads.Learnt, reduce-children-below t, reduce-children.Post, part-of-reads.Asked, part-of-reads.Learnt, reduce-list-below t, reduce-list.Post, close-list-reads.Asked, close-list-reads.Learnt, first-size-reads.Asked, first-size-reads.Learnt, none-one-several-reads.Asked, none-one-several-reads.Learnt, remove-unused-addition-reads.Asked, remove-unused-addition-reads.Learnt, remove-unused-class-reads.Asked, remove-unused-class-reads.Learnt)
 
 reduce-child-waits-at-requires : (t : ℕ) → reduce-child-lts.Need-waits-at-requires (reduce-child-calls t) (reduce-child-at t) reduce-child.Post
 reduce-child-waits-at-requires t c κs = child-inside (c .before .before .pre .1)
@@ -177,6 +195,54 @@ reduce-children-same-length t c = search needs
 reduce-children-returns : (t : ℕ) → reduce-children-lts.Need-returns (reduce-children-calls t) (reduce-children-at t) reduce-children.Post reduce-children-Inv-loop reduce-children-μ-loop
 reduce-children-returns t c = walk-done (c .before .loop .inv) (c .loop-test .left)
 
+reduce-list-enum-told : (t : ℕ) → reduce-list-lts.Need-enum-told (reduce-list-calls t) (reduce-list-at t) reduce-list.Post
+reduce-list-enum-told t c = search needs
+
+reduce-list-reduce-children-requires : (t : ℕ) → reduce-list-lts.Need-reduce-children-requires (reduce-list-calls t) (reduce-list-at t) reduce-list.Post
+reduce-list-reduce-children-requires t c κs = (omega (arith, c .before .before .before .before .before .pre .0), c .before .before .before .before .before .pre .1)
+
+reduce-list-enum-told-2 : (t : ℕ) → reduce-list-lts.Need-enum-told-2 (reduce-list-calls t) (reduce-list-at t) reduce-list.Post
+reduce-list-enum-told-2 t c = search needs
+
+reduce-list-reduce-children-requires-2 : (t : ℕ) → reduce-list-lts.Need-reduce-children-requires-2 (reduce-list-calls t) (reduce-list-at t) reduce-list.Post
+reduce-list-reduce-children-requires-2 t c κs = (omega (arith, c .before .before .before .before .before .pre .0), c .before .before .before .before .before .pre .1)
+
+reduce-list-enum-told-3 : (t : ℕ) → reduce-list-lts.Need-enum-told-3 (reduce-list-calls t) (reduce-list-at t) reduce-list.Post
+reduce-list-enum-told-3 t c = search needs
+
+reduce-list-reduce-children-requires-3 : (t : ℕ) → reduce-list-lts.Need-reduce-children-requires-3 (reduce-list-calls t) (reduce-list-at t) reduce-list.Post
+reduce-list-reduce-children-requires-3 t c κs = (omega (arith, c .before .before .before .before .before .pre .0), c .before .before .before .before .before .pre .1)
+
+reduce-list-enum-told-4 : (t : ℕ) → reduce-list-lts.Need-enum-told-4 (reduce-list-calls t) (reduce-list-at t) reduce-list.Post
+reduce-list-enum-told-4 t c = search needs
+
+reduce-list-reduce-children-requires-4 : (t : ℕ) → reduce-list-lts.Need-reduce-children-requires-4 (reduce-list-calls t) (reduce-list-at t) reduce-list.Post
+reduce-list-reduce-children-requires-4 t c κs = (omega (arith, c .before .before .before .before .before .pre .0), c .before .before .before .before .before .pre .1)
+
+reduce-list-same-length : (t : ℕ) → reduce-list-lts.Need-same-length (reduce-list-calls t) (reduce-list-at t) reduce-list.Post
+reduce-list-same-length t c = search needs
+
+reduce-list-returns : (t : ℕ) → reduce-list-lts.Need-returns (reduce-list-calls t) (reduce-list-at t) reduce-list.Post
+reduce-list-returns t c = walked-as _ (sym (c .before .before .before .before .enum-told .given .1)) (c .before .before .reduce-children .ensures)
+
+reduce-list-same-length-2 : (t : ℕ) → reduce-list-lts.Need-same-length-2 (reduce-list-calls t) (reduce-list-at t) reduce-list.Post
+reduce-list-same-length-2 t c = search needs
+
+reduce-list-returns-2 : (t : ℕ) → reduce-list-lts.Need-returns-2 (reduce-list-calls t) (reduce-list-at t) reduce-list.Post
+reduce-list-returns-2 t c = walked-as _ (sym (c .before .before .before .before .enum-told2 .given .1)) (c .before .before .reduce-children2 .ensures)
+
+reduce-list-same-length-3 : (t : ℕ) → reduce-list-lts.Need-same-length-3 (reduce-list-calls t) (reduce-list-at t) reduce-list.Post
+reduce-list-same-length-3 t c = search needs
+
+reduce-list-returns-3 : (t : ℕ) → reduce-list-lts.Need-returns-3 (reduce-list-calls t) (reduce-list-at t) reduce-list.Post
+reduce-list-returns-3 t c = walked-as _ (sym (c .before .before .before .before .enum-told3 .given .1)) (c .before .before .reduce-children3 .ensures)
+
+reduce-list-same-length-4 : (t : ℕ) → reduce-list-lts.Need-same-length-4 (reduce-list-calls t) (reduce-list-at t) reduce-list.Post
+reduce-list-same-length-4 t c = search needs
+
+reduce-list-returns-4 : (t : ℕ) → reduce-list-lts.Need-returns-4 (reduce-list-calls t) (reduce-list-at t) reduce-list.Post
+reduce-list-returns-4 t c = walked-as _ (sym (c .before .before .before .before .enum-told4 .given .1)) (c .before .before .reduce-children4 .ensures)
+
 remove-unused-expression-handle-requires : (t : ℕ) → remove-unused-expression-lts.Need-handle-requires (remove-unused-expression-calls t) (remove-unused-expression-at t) remove-unused-expression.Post
 remove-unused-expression-handle-requires t c κs = given-node (c .before .before .pre .1)
 
@@ -210,14 +276,14 @@ remove-unused-expression-enum-known-outcome t c = search needs
 remove-unused-expression-part-of-requires : (t : ℕ) → remove-unused-expression-lts.Need-part-of-requires (remove-unused-expression-calls t) (remove-unused-expression-at t) remove-unused-expression.Post
 remove-unused-expression-part-of-requires t c κs = search needs
 
-remove-unused-expression-add-reduce-children : (t : ℕ) → remove-unused-expression-lts.Need-add-reduce-children (remove-unused-expression-calls t) (remove-unused-expression-at t) remove-unused-expression.Post
-remove-unused-expression-add-reduce-children t c = omega (arith, c .before .before .before .before .before .before .before .before .pre .1 .fits, some-size (c .before .before .before .before .before .before .before .before .pre .1 .input))
+remove-unused-expression-add-reduce-list : (t : ℕ) → remove-unused-expression-lts.Need-add-reduce-list (remove-unused-expression-calls t) (remove-unused-expression-at t) remove-unused-expression.Post
+remove-unused-expression-add-reduce-list t c = omega (arith, c .before .before .before .before .before .before .before .before .pre .1 .fits, some-size (c .before .before .before .before .before .before .before .before .pre .1 .input))
 
-remove-unused-expression-reduce-children-requires-2 : (t : ℕ) → remove-unused-expression-lts.Need-reduce-children-requires-2 (remove-unused-expression-calls t) (remove-unused-expression-at t) remove-unused-expression.Post
-remove-unused-expression-reduce-children-requires-2 t c κs = (omega (arith, c .before .before .before .before .before .before .before .before .pre .0, c .before .before .before .before .before .before .before .before .pre .1 .input .small, some-depth (c .before .before .before .before .before .before .before .before .pre .1 .input), some-size (c .before .before .before .before .before .before .before .before .pre .1 .input)), inner-given (c .before .before .before .before .before .before .before .before .pre .1))
+remove-unused-expression-reduce-list-requires : (t : ℕ) → remove-unused-expression-lts.Need-reduce-list-requires (remove-unused-expression-calls t) (remove-unused-expression-at t) remove-unused-expression.Post
+remove-unused-expression-reduce-list-requires t c κs = (omega (arith, c .before .before .before .before .before .before .before .before .pre .0, c .before .before .before .before .before .before .before .before .pre .1 .input .small, some-depth (c .before .before .before .before .before .before .before .before .pre .1 .input), some-size (c .before .before .before .before .before .before .before .before .pre .1 .input)), inner-given (c .before .before .before .before .before .before .before .before .pre .1))
 
 remove-unused-expression-close-list-requires : (t : ℕ) → remove-unused-expression-lts.Need-close-list-requires (remove-unused-expression-calls t) (remove-unused-expression-at t) remove-unused-expression.Post
-remove-unused-expression-close-list-requires t c κs = walked-given _ (walked-as (partOf (c .before .before .before .before .before .before .before .outcome .given .0 .0)) (c .before .before .before .before .before .part-of .ensures) (c .before .before .before .reduce-children2 .ensures)) (c .before .before .before .before .before .before .before .before .before .before .before .before .pre .1) (c .before .before .before .reduce-children2 .kept .1 .1 .1 .1 .1 .1 .0)
+remove-unused-expression-close-list-requires t c κs = walked-given _ (walked-as (partOf (c .before .before .before .before .before .before .before .outcome .given .0 .0)) (c .before .before .before .before .before .part-of .ensures) (c .before .before .before .reduce-list .ensures)) (c .before .before .before .before .before .before .before .before .before .before .before .before .pre .1) (c .before .before .before .reduce-list .kept .1 .1 .1 .1 .1 .1 .0)
 
 remove-unused-expression-enum-told-4 : (t : ℕ) → remove-unused-expression-lts.Need-enum-told-4 (remove-unused-expression-calls t) (remove-unused-expression-at t) remove-unused-expression.Post
 remove-unused-expression-enum-told-4 t c = search needs
@@ -231,14 +297,14 @@ remove-unused-expression-add-from t c = omega (arith, callee-within (as-outcome 
 remove-unused-expression-sub-size : (t : ℕ) → remove-unused-expression-lts.Need-sub-size (remove-unused-expression-calls t) (remove-unused-expression-at t) remove-unused-expression.Post
 remove-unused-expression-sub-size t c = omega (arith, callee-within (as-outcome Arguments (c .before .enum-told4 .given .1) (c .before .before .before .handle .ensures)) _ (c .first-size .ensures) (c .before .before .before .before .before .before .pre .1))
 
-remove-unused-expression-add-reduce-children-2 : (t : ℕ) → remove-unused-expression-lts.Need-add-reduce-children-2 (remove-unused-expression-calls t) (remove-unused-expression-at t) remove-unused-expression.Post
-remove-unused-expression-add-reduce-children-2 t c = omega (arith, c .before .before .before .before .before .before .before .pre .1 .fits, some-size (c .before .before .before .before .before .before .before .pre .1 .input))
+remove-unused-expression-add-reduce-children : (t : ℕ) → remove-unused-expression-lts.Need-add-reduce-children (remove-unused-expression-calls t) (remove-unused-expression-at t) remove-unused-expression.Post
+remove-unused-expression-add-reduce-children t c = omega (arith, c .before .before .before .before .before .before .before .pre .1 .fits, some-size (c .before .before .before .before .before .before .before .pre .1 .input))
 
-remove-unused-expression-reduce-children-requires-3 : (t : ℕ) → remove-unused-expression-lts.Need-reduce-children-requires-3 (remove-unused-expression-calls t) (remove-unused-expression-at t) remove-unused-expression.Post
-remove-unused-expression-reduce-children-requires-3 t c κs = (omega (arith, c .before .before .before .before .before .before .before .pre .0, c .before .before .before .before .before .before .before .pre .1 .input .small, some-depth (c .before .before .before .before .before .before .before .pre .1 .input), some-size (c .before .before .before .before .before .before .before .pre .1 .input)), arguments-given (as-outcome Arguments (c .before .before .enum-told4 .given .1) (c .before .before .before .before .handle .ensures)) _ (c .before .first-size .ensures) (c .before .before .before .before .before .before .before .pre .1))
+remove-unused-expression-reduce-children-requires-2 : (t : ℕ) → remove-unused-expression-lts.Need-reduce-children-requires-2 (remove-unused-expression-calls t) (remove-unused-expression-at t) remove-unused-expression.Post
+remove-unused-expression-reduce-children-requires-2 t c κs = (omega (arith, c .before .before .before .before .before .before .before .pre .0, c .before .before .before .before .before .before .before .pre .1 .input .small, some-depth (c .before .before .before .before .before .before .before .pre .1 .input), some-size (c .before .before .before .before .before .before .before .pre .1 .input)), arguments-given (as-outcome Arguments (c .before .before .enum-told4 .given .1) (c .before .before .before .before .handle .ensures)) _ (c .before .first-size .ensures) (c .before .before .before .before .before .before .before .pre .1))
 
 remove-unused-expression-none-one-several-requires : (t : ℕ) → remove-unused-expression-lts.Need-none-one-several-requires (remove-unused-expression-calls t) (remove-unused-expression-at t) remove-unused-expression.Post
-remove-unused-expression-none-one-several-requires t c κs = arguments-list (as-outcome Arguments (c .before .before .before .before .before .before .enum-told4 .given .1) (c .before .before .before .before .before .before .before .before .handle .ensures)) _ (c .before .before .before .before .before .first-size .ensures) (c .before .before .before .reduce-children3 .ensures) (c .before .before .before .before .before .before .before .before .before .before .before .pre .1) (c .before .before .before .reduce-children3 .kept .1 .1 .1 .1 .1 .1 .0)
+remove-unused-expression-none-one-several-requires t c κs = arguments-list (as-outcome Arguments (c .before .before .before .before .before .before .enum-told4 .given .1) (c .before .before .before .before .before .before .before .before .handle .ensures)) _ (c .before .before .before .before .before .first-size .ensures) (c .before .before .before .reduce-children2 .ensures) (c .before .before .before .before .before .before .before .before .before .before .before .pre .1) (c .before .before .before .reduce-children2 .kept .1 .1 .1 .1 .1 .1 .0)
 
 remove-unused-expression-enum-told-5 : (t : ℕ) → remove-unused-expression-lts.Need-enum-told-5 (remove-unused-expression-calls t) (remove-unused-expression-at t) remove-unused-expression.Post
 remove-unused-expression-enum-told-5 t c = search needs
@@ -271,13 +337,13 @@ remove-unused-expression-same-length-3 : (t : ℕ) → remove-unused-expression-
 remove-unused-expression-same-length-3 t c = search needs
 
 remove-unused-expression-returns-4 : (t : ℕ) → remove-unused-expression-lts.Need-returns-4 (remove-unused-expression-calls t) (remove-unused-expression-at t) remove-unused-expression.Post
-remove-unused-expression-returns-4 t c = rewritten-done _ (walked-as (partOf (c .before .before .before .before .before .before .before .before .before .before .outcome .given .0 .0)) (c .before .before .before .before .before .before .before .before .part-of .ensures) (c .before .before .before .before .before .before .reduce-children2 .ensures)) (as-outcome (Rewritten (c .before .before .before .before .before .before .before .before .before .before .outcome .given .0 .0)) (c .before .before .before .before .before .before .before .before .before .before .outcome .given .1) (c .before .before .before .before .before .before .before .before .before .before .before .before .handle .ensures)) (c .before .before .close-list .ensures)
+remove-unused-expression-returns-4 t c = rewritten-done _ (walked-as (partOf (c .before .before .before .before .before .before .before .before .before .before .outcome .given .0 .0)) (c .before .before .before .before .before .before .before .before .part-of .ensures) (c .before .before .before .before .before .before .reduce-list .ensures)) (as-outcome (Rewritten (c .before .before .before .before .before .before .before .before .before .before .outcome .given .0 .0)) (c .before .before .before .before .before .before .before .before .before .before .outcome .given .1) (c .before .before .before .before .before .before .before .before .before .before .before .before .handle .ensures)) (c .before .before .close-list .ensures)
 
 remove-unused-expression-same-length-4 : (t : ℕ) → remove-unused-expression-lts.Need-same-length-4 (remove-unused-expression-calls t) (remove-unused-expression-at t) remove-unused-expression.Post
 remove-unused-expression-same-length-4 t c = search needs
 
 remove-unused-expression-returns-5 : (t : ℕ) → remove-unused-expression-lts.Need-returns-5 (remove-unused-expression-calls t) (remove-unused-expression-at t) remove-unused-expression.Post
-remove-unused-expression-returns-5 t c = arguments-done (as-outcome Arguments (c .before .before .before .before .before .before .before .before .before .enum-told4 .given .1) (c .before .before .before .before .before .before .before .before .before .before .before .handle .ensures)) _ (c .before .before .before .before .before .before .before .before .first-size .ensures) (c .before .before .before .before .before .before .reduce-children3 .ensures) (c .before .before .none-one-several .ensures)
+remove-unused-expression-returns-5 t c = arguments-done (as-outcome Arguments (c .before .before .before .before .before .before .before .before .before .enum-told4 .given .1) (c .before .before .before .before .before .before .before .before .before .before .before .handle .ensures)) _ (c .before .before .before .before .before .before .before .before .first-size .ensures) (c .before .before .before .before .before .before .reduce-children2 .ensures) (c .before .before .none-one-several .ensures)
 
 remove-unused-expression-same-length-5 : (t : ℕ) → remove-unused-expression-lts.Need-same-length-5 (remove-unused-expression-calls t) (remove-unused-expression-at t) remove-unused-expression.Post
 remove-unused-expression-same-length-5 t c = search needs
@@ -291,9 +357,15 @@ remove-unused-expression-same-length-6 t c = search needs
 remove-unused-expression-returns-7 : (t : ℕ) → remove-unused-expression-lts.Need-returns-7 (remove-unused-expression-calls t) (remove-unused-expression-at t) remove-unused-expression.Post
 remove-unused-expression-returns-7 t c = class-done (as-outcome Class (c .before .before .before .before .enum-told6 .given .1) (c .before .before .before .before .before .before .handle .ensures)) (c .before .before .remove-unused-class .ensures)
 
-pub +reduce-child+reduce-children+remove-unused-expression-spec : {M : Type 1} → statement M
-+reduce-child+reduce-children+remove-unused-expression-spec =
-    close μ-reduce-child μ-reduce-children μ-remove-unused-expression (λ t. reduce-child-lts.spec (reduce-child-calls t)
+pub +reduce-child+reduce-children+reduce-list+remove-unused-expression-spec :
+    {M : Type 1} → statement M
++reduce-child+reduce-children+reduce-list+remove-unused-expression-spec =
+    close
+    μ-reduce-child
+    μ-reduce-children
+    μ-reduce-list
+    μ-remove-unused-expression
+    (λ t. reduce-child-lts.spec (reduce-child-calls t)
     (reduce-child-at t)
     reduce-child.Post
     (reduce-child-waits-at-requires t)
@@ -323,6 +395,26 @@ pub +reduce-child+reduce-children+remove-unused-expression-spec : {M : Type 1} �
     (reduce-children-loop-again t)
     (reduce-children-same-length t)
     (reduce-children-returns t))
+    (λ t. reduce-list-lts.spec
+    (reduce-children-below t, reduce-children.Post)
+    (reduce-list-at t)
+    reduce-list.Post
+    (reduce-list-enum-told t)
+    (reduce-list-reduce-children-requires t)
+    (reduce-list-enum-told-2 t)
+    (reduce-list-reduce-children-requires-2 t)
+    (reduce-list-enum-told-3 t)
+    (reduce-list-reduce-children-requires-3 t)
+    (reduce-list-enum-told-4 t)
+    (reduce-list-reduce-children-requires-4 t)
+    (reduce-list-same-length t)
+    (reduce-list-returns t)
+    (reduce-list-same-length-2 t)
+    (reduce-list-returns-2 t)
+    (reduce-list-same-length-3 t)
+    (reduce-list-returns-3 t)
+    (reduce-list-same-length-4 t)
+    (reduce-list-returns-4 t))
     λ t. remove-unused-expression-lts.spec (remove-unused-expression-calls t)
     (remove-unused-expression-at t)
     remove-unused-expression.Post
@@ -337,15 +429,15 @@ pub +reduce-child+reduce-children+remove-unused-expression-spec : {M : Type 1} �
     (remove-unused-expression-reduce-children-requires t)
     (remove-unused-expression-enum-known-outcome t)
     (remove-unused-expression-part-of-requires t)
-    (remove-unused-expression-add-reduce-children t)
-    (remove-unused-expression-reduce-children-requires-2 t)
+    (remove-unused-expression-add-reduce-list t)
+    (remove-unused-expression-reduce-list-requires t)
     (remove-unused-expression-close-list-requires t)
     (remove-unused-expression-enum-told-4 t)
     (remove-unused-expression-first-size-requires t)
     (remove-unused-expression-add-from t)
     (remove-unused-expression-sub-size t)
-    (remove-unused-expression-add-reduce-children-2 t)
-    (remove-unused-expression-reduce-children-requires-3 t)
+    (remove-unused-expression-add-reduce-children t)
+    (remove-unused-expression-reduce-children-requires-2 t)
     (remove-unused-expression-none-one-several-requires t)
     (remove-unused-expression-enum-told-5 t)
     (remove-unused-expression-remove-unused-addition-requires t)
