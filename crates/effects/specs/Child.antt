@@ -1,28 +1,20 @@
 -- One child, by the part of it that is listed.
-use mathlib.Core.Path.{_≡_, refl, sym, ap, subst, _∙_}
-use mathlib.Core.Bool.{Bool, true, false, cond, _&&_}
+use mathlib.Core.Path.{_≡_, sym, ap, _∙_}
+use mathlib.Core.Bool.{Bool, true, false}
 use mathlib.Core.List.{List}
-use Prim.Native.Nat.{ℕ, _+_, _-_, _/_, _%_, _<_, _≤_}
+use Prim.Native.Nat.{ℕ, _+_, _-_, _/_, _%_, _≤_}
 use native.Mathlib.Omega.{arith}
-use lib.Dec.{eqb, leb}
-use borrow.Author.Tests.{leb-true, eqb-true, eqb-false}
 use lib.ListN.{length, length-append}
-use Rattle.tree.specs.Tree.{Head, Forest, Tree, one, count}
+use Rattle.tree.specs.Tree.{Tree, one}
 use Rattle.tree.specs.Fields.{headAt}
-use Rattle.tree.specs.Below.{and-left, and-right}
-use Rattle.tree.specs.Children.{childCountOk, nodeOk}
-use Rattle.tree.specs.Stands.{NodeOk, node-parts}
-use Rattle.tree.specs.Record.{bit, factsOk, elementSubOk, subOk, recordOk}
 use Rattle.rules.specs.Lists.{concatMap, keepIf}
 use Rattle.rules.specs.Settings.{Settings}
 use Rattle.rules.specs.Facts.{possibleSymbol}
 use Rattle.rules.specs.Class.{hasStaticValue, nonemptyStaticBlock, staticValue}
 use Rattle.rules.specs.Effects.{evaluate, effects, effectsOf, itself, itselfIf, coercion, coercionNumber}
-use Rattle.rules.specs.Proofs.Lists.{by-cond}
 use Rattle.rules.specs.Proofs.Effects.{key-is, static-is}
 use Rattle.readings.specs.Node.{Tells}
 use Rattle.tree.specs.Kind as kind
-use Rattle.readings.specs.Split.{first-node, Split, split, given-first}
 use Rattle.effects.specs.declared.listing.Part.{Part}
 use Rattle.effects.specs.declared.listing.Part.the-variants.{InOrder, Coerced, Key, Static}
 use Rattle.effects.specs.Listing.{allListedAs, Wrote, GivenChildren, ListedChildren, GivenTree, ListedTree, wrote-both, wrote-as}

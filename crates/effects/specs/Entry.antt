@@ -1,13 +1,13 @@
 -- One entry of the list.
-use mathlib.Core.Path.{_≡_, refl, sym, ap, ap₂, _∙_}
+use mathlib.Core.Path.{_≡_, sym, ap, ap₂, _∙_}
 use mathlib.Core.Bool.{Bool, true, false, true≢false}
 use mathlib.Core.List.{List, [], _∷_}
-use Prim.Native.Nat.{ℕ, zero, suc, _+_, _*_, _<_, _≤_}
+use Prim.Native.Nat.{ℕ, _+_, _*_, _<_, _≤_}
 use native.Mathlib.Nat.{add-zero}
 use native.Mathlib.Omega.{arith}
 use lib.ListN.{length, set}
 use Rattle.tree.specs.Tree.{Head, Tree}
-use Rattle.tree.specs.Fields.{start, headAt, subtreeAt}
+use Rattle.tree.specs.Fields.{start, headAt}
 use Rattle.rules.specs.Lists.{keepIf}
 use Rattle.rules.specs.Facts.{possibleSymbol}
 use Rattle.rules.specs.Effects.{itself, itselfIf, coercion, coercionNumber}

@@ -7,7 +7,7 @@ use native.Mathlib.Omega.{arith}
 use lib.Dec.{eqb}
 use lib.ListN.{length}
 use borrow.Author.Tests.{eq-eqb, ne-eqb}
-use Rattle.tree.specs.Tree.{Head, Tree, forest, one, records, size}
+use Rattle.tree.specs.Tree.{Head, Tree, records}
 use Rattle.tree.specs.Fields.{start, headAt, subtreeAt}
 use Rattle.rules.specs.Lists.{any}
 use Rattle.rules.specs.Handler.{isKind}

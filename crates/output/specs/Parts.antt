@@ -8,10 +8,7 @@ use native.Mathlib.Nat.{zero-add}
 use lib.ListN.{length, getD, take, drop, length-drop, drop-of-length-le, List·getD-append}
 use lib.Seq.{take-all, length-take-le, getD-append-add, getD-take, getD-drop}
 use borrow.Rule.Slice.PartMut.{midOf, putMid}
-use Rattle.le.specs.Le.{u16At, u32At}
-use Rattle.tree.specs.Tree.{Head}
-use Rattle.tree.specs.Fields.{start, headAt, childrenAt, subtreeAt}
-use Rattle.tree.specs.Below.{lt-or-le}
+use Rattle.tree.specs.Fields.{start, headAt}
 use Rattle.rules.specs.Made.{madeHead}
 use Rattle.output.specs.Bytes.{Agree, Kept, Copied, Moved, Patched, Made, Recorded, copied-at, copied-u16, copied-u32, head-copied}
 

@@ -1,13 +1,13 @@
 -- Lists of trees that stand in a buffer, from one record to another, as writing leaves them.
 use mathlib.Core.Path.{_≡_, refl, sym, ap, subst, _∙_}
 use mathlib.Core.List.{List, [], _∷_, _++_}
-use Prim.Native.Nat.{ℕ, suc, _+_, _*_, _<_, _≤_}
+use Prim.Native.Nat.{ℕ, suc, _+_, _*_, _≤_}
 use native.Mathlib.Omega.{arith}
-use lib.ListN.{length, getD}
+use lib.ListN.{length}
 use Rattle.tree.specs.Tree.{Head, Forest, nil, node, Tree, forest, one, count, records, size}
-use Rattle.tree.specs.Fields.{start, headAt, childrenAt, subtreeAt}
+use Rattle.tree.specs.Fields.{start}
 use Rattle.tree.specs.Stands.{Stands}
-use Rattle.output.specs.Bytes.{Agree, Copied, Moved, Recorded, agree-all, agree-less, agree-trans, agree-copied, kept-copied, copied-part, copied-u16, head-copied}
+use Rattle.output.specs.Bytes.{Agree, Copied, Moved, Recorded, agree-less, agree-trans, agree-copied, kept-copied, copied-part, copied-u16, head-copied}
 
 -- The trees ts stand from record p to record e.
 pub record Spans (s : List ℕ) (p e : ℕ) (ts : List Tree) : Type 0 where

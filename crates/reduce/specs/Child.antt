@@ -1,12 +1,12 @@
 -- One child: it waits, is wrapped, or is reduced and settled.
-use mathlib.Core.Path.{_≡_, refl, sym, ap, subst, _∙_}
+use mathlib.Core.Path.{_≡_, sym, ap, subst, _∙_}
 use mathlib.Core.Bool.{Bool, true, false, cond}
 use mathlib.Core.List.{List, [], _∷_, _++_}
-use Prim.Native.Nat.{ℕ, suc, _+_, _*_, _<_, _≤_}
+use Prim.Native.Nat.{ℕ, _+_, _*_, _<_, _≤_}
 use native.Mathlib.Omega.{arith}
 use lib.ListN.{length}
-use Rattle.tree.specs.Tree.{Tree, one, forest, records}
-use Rattle.tree.specs.Fields.{start, headAt}
+use Rattle.tree.specs.Tree.{Tree, one}
+use Rattle.tree.specs.Fields.{start}
 use Rattle.rules.specs.Settings.{Settings}
 use Rattle.rules.specs.Lists.{keepIf}
 use Rattle.rules.specs.Facts.{flagged}
@@ -16,13 +16,13 @@ use Rattle.rules.specs.Theorems.{at-most-twice}
 use Rattle.readings.specs.Node.{SomeNode, Tells}
 use Rattle.readings.specs.Input.{Input, input-node}
 use Rattle.readings.specs.Split.{some-size}
-use Rattle.output.specs.Bytes.{Agree, agree-all, agree-less, agree-trans}
-use Rattle.output.specs.Trees.{Spans, Wrote, wrote-none, wrote-as}
+use Rattle.output.specs.Bytes.{Agree, agree-less, agree-trans}
+use Rattle.output.specs.Trees.{Wrote, wrote-none, wrote-as}
 use Rattle.rewrite.specs.Waiting.{Waits, Held, Wrapped, waits-after, waits-agree}
 use Rattle.reduce.specs.declared.walk.Part.{Part}
 use Rattle.reduce.specs.Walked.{Progress, waits, wraps, leftOf, settled, step}
 use Rattle.reduce.specs.Laws.{left-wrapped, left-reduced}
-use Rattle.reduce.specs.Settled.{Stepped, GivenSettled, GivenSettle, Settles}
+use Rattle.reduce.specs.Settled.{Stepped, GivenSettle, Settles}
 use Rattle.reduce.specs.Given.{GivenTree, ReducedTree, GivenChild, ReducedChild}
 
 -- What was written over bytes that agree.

@@ -1,10 +1,10 @@
 -- The walk over a list of children.
-use mathlib.Core.Path.{_≡_, refl, subst, _∙_}
-use mathlib.Core.List.{List, [], _∷_}
+use mathlib.Core.Path.{_≡_, refl, _∙_}
+use mathlib.Core.List.{List, []}
 use Prim.Native.Nat.{ℕ, _+_, _*_, _-_, _<_, _≤_}
 use native.Mathlib.Omega.{arith}
 use lib.ListN.{length}
-use Rattle.tree.specs.Tree.{Forest, nil, node, Tree, trees, one}
+use Rattle.tree.specs.Tree.{Forest, nil, node, Tree, trees}
 use Rattle.tree.specs.Fields.{start, subtreeAt}
 use Rattle.rules.specs.Settings.{Settings}
 use Rattle.readings.specs.Input.{Input}
@@ -13,7 +13,7 @@ use Rattle.output.specs.Bytes.{agree-all}
 use Rattle.output.specs.Trees.{wrote-none, wrote-both}
 use Rattle.rewrite.specs.Waiting.{Waits, waits-none}
 use Rattle.reduce.specs.declared.walk.Part.{Part}
-use Rattle.reduce.specs.Walked.{Progress, step, walked}
+use Rattle.reduce.specs.Walked.{step, walked}
 use Rattle.reduce.specs.Settled.{Stepped}
 use Rattle.reduce.specs.Given.{GivenChild, ReducedChild, GivenChildren, ReducedChildren}
 
@@ -136,9 +136,3 @@ module _ {s : List ℕ} {at size depth : ℕ} {st : Settings} {part : Part} {old
                 waits = d .waiting;
                 whole = λ new b c v. w .whole new b c (rest-whole new b c (rw (← y) at v));
               }
-
--- The same walk, by the part that was asked for.
-pub walked-as : {s : List ℕ} {at size depth : ℕ} {st : Settings} {part : Part} (q : Part) {old new : List ℕ} {slot next slot′ next′ : ℕ} → part ≡ q
-    → ReducedChildren s at size depth st part old new slot next slot′ next′ → ReducedChildren s at size depth st q old new slot next slot′ next′
-walked-as {s} {at} {size} {depth} {st} q {old} {new} {slot} {next} {slot′} {next′} e w =
-    subst (λ (x : Part). ReducedChildren s at size depth st x old new slot next slot′ next′) e w

@@ -1,18 +1,16 @@
 -- An expression, by its outcome.
 use mathlib.Core.Path.{_≡_, refl, sym, ap, subst, _∙_}
-use mathlib.Core.Bool.{Bool}
-use mathlib.Core.List.{List, [], _∷_, _++_, map}
-use Prim.Native.Nat.{ℕ, suc, _+_, _*_, _-_, _<_, _≤_}
+use mathlib.Core.List.{List, [], _++_, map}
+use Prim.Native.Nat.{ℕ, _+_, _*_, _-_, _≤_}
 use native.Mathlib.Omega.{arith}
 use lib.ListN.{length, drop}
-use Rattle.tree.specs.Tree.{Place, Head, Tree, trees, one, records}
-use Rattle.tree.specs.Fields.{start, headAt, subtreeAt}
+use Rattle.tree.specs.Tree.{Place, Head, Tree, trees, one}
+use Rattle.tree.specs.Fields.{start, subtreeAt}
 use Rattle.rules.specs.Lists.{concatMap}
 use Rattle.rules.specs.Settings.{Settings}
 use Rattle.rules.specs.Made.{placeOf, makeTemplate, makeObject}
-use Rattle.rules.specs.Reduce.{reduce, flush, staysWith, noneOneSeveral, transformTemplate, transformObject, foldArgumentsIntoNeededExpressions}
+use Rattle.rules.specs.Reduce.{reduce, flush, staysWith, noneOneSeveral, foldArgumentsIntoNeededExpressions}
 use Rattle.rules.specs.Proofs.Unfold.{reduced}
-use Rattle.readings.specs.Node.{SomeNode}
 use Rattle.readings.specs.Input.{Input, input-node}
 use Rattle.readings.specs.First.{GivenFirst}
 use Rattle.readings.specs.Split.{first-node, some-size, kids-input, Split, split, given-first}
@@ -22,7 +20,7 @@ use Rattle.handlers.specs.declared.outcome.Outcome.the-variants.{Removable, Unc
 use Rattle.handlers.specs.declared.outcome.Rewrite.{Rewrite}
 use Rattle.handlers.specs.declared.outcome.Rewrite.the-variants.{Sequence, Array, Comparison}
 use Rattle.handlers.specs.declared.outcome.Rewrite.the-variants as rewrites
-use Rattle.output.specs.Bytes.{Agree, agree-all}
+use Rattle.output.specs.Bytes.{agree-all}
 use Rattle.output.specs.Trees.{Wrote, CopiedTree, wrote-none, wrote-over, wrote-as}
 use Rattle.output.specs.Given as whole
 use Rattle.addition.specs.Fold.{RemovesAddition}
@@ -30,11 +28,11 @@ use Rattle.classes.specs.Class.{GivenClass, RemovesClass}
 use Rattle.rewrite.specs.Waiting.{waits-none}
 use Rattle.rewrite.specs.Becomes.{GivenList, Becomes, noneOneSeveralOf, arrayOf, joinKeptOf}
 use Rattle.reduce.specs.declared.walk.Part.{Part}
-use Rattle.reduce.specs.declared.walk.Part.the-variants.{InOrder, Argument}
-use Rattle.reduce.specs.Walked.{Progress, partOf, walked}
+use Rattle.reduce.specs.declared.walk.Part.the-variants.{InOrder, Argument, Template, Object}
+use Rattle.reduce.specs.Walked.{Progress, walked}
 use Rattle.reduce.specs.Laws.{template-walked, object-walked, in-order-walked, arguments-walked}
 use Rattle.reduce.specs.Settled.{Stepped}
-use Rattle.reduce.specs.Close.{GivenClose, ClosesList, MayWait, closedBy}
+use Rattle.reduce.specs.Close.{GivenWalked, Closes}
 use Rattle.reduce.specs.Given.{GivenTree, ReducedTree, GivenChildren, ReducedChildren}
 
 pub as-outcome : {s : List ℕ} {at : ℕ} {st : Settings} {o : Outcome} (q : Outcome) → o ≡ q → Handles s at st o → Handles s at st q
@@ -75,22 +73,6 @@ module _ {s : List ℕ} {at size depth : ℕ} {old mid : List ℕ} {pos next : �
   becomes-left : (f : Tree → List Tree → List Tree) {new : List ℕ} {r : ℕ} → Becomes f s at mid new pos next r → (t : Tree) → Input s at size depth (one t) → (ts : List Tree) → Wrote old mid (pos + 1) next ts → Wrote old new pos r (f t ts)
   becomes-left f b t i ts w = wrote-over w (omega arith) (b .by t (i .holds .stands .0) ts (w .spans))
 
--- The walk over all children: in a sequence, an array and a comparison none wait at its end, and what a rewrite makes of it is the
--- rule's.
-may-wait : (made : Rewrite) (st : Settings) (t : Tree) → MayWait made (walked (partOf made) st [] (trees (t .kids)))
-may-wait Sequence st t = ap (λ (q : Progress). q .waiting) (in-order-walked st (trees (t .kids)))
-may-wait Array st t = ap (λ (q : Progress). q .waiting) (in-order-walked st (trees (t .kids)))
-may-wait rewrites.Template st t = tt
-may-wait rewrites.Object st t = tt
-may-wait Comparison st t = ap (λ (q : Progress). q .waiting) (in-order-walked st (trees (t .kids)))
-
-closed-is : (made : Rewrite) (st : Settings) (t : Tree) → closedBy made t (walked (partOf made) st [] (trees (t .kids))) ≡ rewritten made st t
-closed-is Sequence st t = ap (λ (q : Progress). staysWith t (q .done)) (in-order-walked st (trees (t .kids)))
-closed-is Array st t = ap (λ (q : Progress). arrayOf t (q .done)) (in-order-walked st (trees (t .kids)))
-closed-is rewrites.Template st t = ap (noneOneSeveral (placeOf t)) (sym (template-walked st (placeOf t) [] (trees (t .kids))))
-closed-is rewrites.Object st t = ap (noneOneSeveral (placeOf t)) (sym (object-walked st (placeOf t) [] (trees (t .kids))))
-closed-is Comparison st t = ap (λ (q : Progress). joinKeptOf t (q .done)) (in-order-walked st (trees (t .kids)))
-
 module _ {s : List ℕ} {at size depth : ℕ} {st : Settings} where
   outcome-is : (o : Outcome) → Handles s at st o → (t : Tree) → Input s at size depth (one t) → HandledAs st t o
   outcome-is o h t i = h .by t (input-node i) (first-node i)
@@ -114,30 +96,56 @@ module _ {s : List ℕ} {at size depth : ℕ} {st : Settings} where
     pub unwrapped-done : Handles s at st Unwrapped → ReducedChildren s (at + 1) (size - 1) (depth - 1) st InOrder old mid pos pos slot next → ReducedTree s at size depth st old mid pos next
     unwrapped-done h a = record { by = λ t i. wrote-as (in-order-wrote a t i) (sym (outcome-is Unwrapped h t i .is)) }
 
-  -- A node that is rewritten over the list of what is left of its children, behind the free record at pos.
-  module _ (made : Rewrite) {old mid : List ℕ} {pos slot next : ℕ} (a : ReducedChildren s (at + 1) (size - 1) (depth - 1) st (partOf made) old mid (pos + 1) (pos + 1) slot next) where
-    pub walked-given : {room : ℕ} → GivenTree s at size depth pos room → length mid ≡ room → GivenClose s at made mid pos slot next
-    walked-given g n =
-        let d = walked-stepped a (g .tree) (g .input) in
-        record {
-          walked = record {
+  -- Children of which none wait, behind the free record at pos.
+  module _ {old mid : List ℕ} {pos slot next : ℕ} where
+    module _ (a : ReducedChildren s (at + 1) (size - 1) (depth - 1) st InOrder old mid (pos + 1) (pos + 1) slot next) where
+      pub in-order-list : {room : ℕ} → GivenTree s at size depth pos room → length mid ≡ room → GivenList s at mid pos next
+      in-order-list g n = given-list g (concatMap (reduce st) (trees (g .tree .kids))) (in-order-wrote a (g .tree) (g .input)) (omega (arith, a .few)) n
+
+      becomes-done : (o : Rewrite) (f : Tree → List Tree → List Tree) → ((t : Tree) → f t (concatMap (reduce st) (trees (t .kids))) ≡ rewritten o st t) → Handles s at st (Rewritten o)
+          → {new : List ℕ} {r : ℕ} → Becomes f s at mid new pos next r → ReducedTree s at size depth st old new pos r
+      becomes-done o f e h b = record { by = λ t i. wrote-as (becomes-left f b t i (concatMap (reduce st) (trees (t .kids))) (in-order-wrote a t i)) (e t ∙ sym (outcome-is (Rewritten o) h t i .is)) }
+
+      pub sequence-done : Handles s at st (Rewritten Sequence) → {new : List ℕ} {r : ℕ} → Becomes staysWith s at mid new pos next r → ReducedTree s at size depth st old new pos r
+      sequence-done = becomes-done Sequence staysWith (λ t. refl)
+
+      pub array-done : Handles s at st (Rewritten Array) → {new : List ℕ} {r : ℕ} → Becomes arrayOf s at mid new pos next r → ReducedTree s at size depth st old new pos r
+      array-done = becomes-done Array arrayOf (λ t. refl)
+
+      pub comparison-done : Handles s at st (Rewritten Comparison) → {new : List ℕ} {r : ℕ} → Becomes joinKeptOf s at mid new pos next r → ReducedTree s at size depth st old new pos r
+      comparison-done = becomes-done Comparison joinKeptOf (λ t. refl)
+
+    -- Where some may wait.
+    module _ {part : Part} (a : ReducedChildren s (at + 1) (size - 1) (depth - 1) st part old mid (pos + 1) (pos + 1) slot next) where
+      pub walked-given : {room : ℕ} → GivenTree s at size depth pos room → length mid ≡ room → GivenWalked s at mid pos slot next
+      walked-given g n =
+          let d = walked-stepped a (g .tree) (g .input) in
+          record {
             node-inside = omega (arith, g .input .inside, some-size (g .input));
-            progress = walked (partOf made) st [] (trees (g .tree .kids));
+            progress = walked part st [] (trees (g .tree .kids));
             settled = d .done .spans;
             waits = d .waiting;
             inside = omega (arith, g .fits, some-size (g .input), a .few);
             small = omega (arith, g .small, some-size (g .input), a .few);
-          };
-          may = may-wait made st (g .tree);
-        }
+          }
 
-    pub rewritten-done : Handles s at st (Rewritten made) → {new : List ℕ} {r : ℕ} → ClosesList made s at mid new pos slot next r → ReducedTree s at size depth st old new pos r
-    rewritten-done h b = record {
-      by = λ t i.
-          let d = walked-stepped a t i in
-          wrote-as (wrote-over (d .done) (omega arith) (b .by t (i .holds .stands .0) (walked (partOf made) st [] (trees (t .kids))) (d .done .spans) (d .waiting) (may-wait made st t)))
-          (closed-is made st t ∙ sym (outcome-is (Rewritten made) h t i .is));
-    }
+      closes-done : (o : Rewrite) (make : Place → List Tree → Tree)
+          → ((t : Tree) → noneOneSeveral (placeOf t) (walked part st [] (trees (t .kids)) .done ++ flush make (placeOf t) (walked part st [] (trees (t .kids)) .waiting)) ≡ rewritten o st t)
+          → Handles s at st (Rewritten o) → {new : List ℕ} {r : ℕ} → Closes make s at mid new pos slot next r → ReducedTree s at size depth st old new pos r
+      closes-done o make e h b = record {
+        by = λ t i.
+            let d = walked-stepped a t i in
+            wrote-as (wrote-over (d .done) (omega arith) (b .by t (i .holds .stands .0) (walked part st [] (trees (t .kids))) (d .done .spans) (d .waiting)))
+            (e t ∙ sym (outcome-is (Rewritten o) h t i .is));
+      }
+
+    pub template-done : ReducedChildren s (at + 1) (size - 1) (depth - 1) st Template old mid (pos + 1) (pos + 1) slot next → Handles s at st (Rewritten rewrites.Template)
+        → {new : List ℕ} {r : ℕ} → Closes makeTemplate s at mid new pos slot next r → ReducedTree s at size depth st old new pos r
+    template-done a = closes-done a rewrites.Template makeTemplate (λ t. ap (noneOneSeveral (placeOf t)) (sym (template-walked st (placeOf t) [] (trees (t .kids)))))
+
+    pub object-done : ReducedChildren s (at + 1) (size - 1) (depth - 1) st Object old mid (pos + 1) (pos + 1) slot next → Handles s at st (Rewritten rewrites.Object)
+        → {new : List ℕ} {r : ℕ} → Closes makeObject s at mid new pos slot next r → ReducedTree s at size depth st old new pos r
+    object-done a = closes-done a rewrites.Object makeObject (λ t. ap (noneOneSeveral (placeOf t)) (sym (object-walked st (placeOf t) [] (trees (t .kids)))))
 
   -- Arguments: the children behind the callee, which takes k records.
   module _ (h : Handles s at st Arguments) where
@@ -186,3 +194,11 @@ module _ {s : List ℕ} {at size depth : ℕ} {st : Settings} where
 
   pub class-done : Handles s at st Class → {old new : List ℕ} {pos r : ℕ} → RemovesClass s at size old new pos r → ReducedTree s at size depth st old new pos r
   class-done h a = record { by = λ t i. wrote-as (a .by t depth i) (sym (outcome-is Class h t i .is)) }
+
+-- A node that is rewritten over what is left of its children, as the match found it.
+pub record GivenRewritten (s : List ℕ) (at size depth : ℕ) (st : Settings) (made : Rewrite) (pos room : ℕ) : Type 0 where
+  pub given : GivenTree s at size depth pos room
+  pub handles : Handles s at st (Rewritten made)
+
+pub as-made : {s : List ℕ} {at : ℕ} {st : Settings} {made : Rewrite} (x : Rewrite) → made ≡ x → Handles s at st (Rewritten made) → Handles s at st (Rewritten x)
+as-made {s} {at} {st} x e h = subst (λ (y : Rewrite). Handles s at st (Rewritten y)) e h

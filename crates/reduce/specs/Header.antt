@@ -1,10 +1,9 @@
 -- The header of a rewritten file.
-use mathlib.Core.Path.{_≡_, sym, _∙_}
+use mathlib.Core.Path.{_≡_}
 use mathlib.Core.Logic.{_≢_}
 use mathlib.Core.List.{List}
 use Prim.Native.Nat.{ℕ, _+_, _<_, _≤_}
 use native.Mathlib.Omega.{arith}
-use native.Mathlib.Nat.{zero-add}
 use lib.ListN.{length, getD}
 use Rattle.le.specs.Le.{u16At, set16}
 use Rattle.le.specs.Laws.{u16-set16, getD-set16-other}

@@ -1,20 +1,20 @@
 -- What the walk leaves is what the rules say.
-use mathlib.Core.Path.{_≡_, refl, sym, ap, ap₂, _∙_}
+use mathlib.Core.Path.{_≡_, refl, sym, ap, _∙_}
 use mathlib.Core.Bool.{Bool, true, false, cond, true≢false}
 use mathlib.Core.List.{List, [], _∷_, _++_, map, append-assoc}
 use Rattle.tree.specs.Tree.{Place, Tree}
 use Rattle.rules.specs.Lists.{any, keepIf, concatMap}
 use Rattle.rules.specs.Settings.{Settings}
-use Rattle.rules.specs.Handler.{Handler, handler, isKind, isSpread}
+use Rattle.rules.specs.Handler.{handler, isKind, isSpread}
 use Rattle.rules.specs.Facts.{flagged, possibleSymbol}
-use Rattle.rules.specs.Made.{placeOf, flagOf, makeArray, makeTemplate, makeObject, withChildren}
-use Rattle.rules.specs.Reduce.{noneOneSeveral, staysWith, flush, flushTemplateBefore, transformTemplate, transformObject, foldArgument, foldArgumentsIntoNeededExpressions, removeUnusedExpression, reduce}
+use Rattle.rules.specs.Made.{placeOf, makeArray, makeTemplate, makeObject, withChildren}
+use Rattle.rules.specs.Reduce.{noneOneSeveral, staysWith, flush, flushTemplateBefore, transformTemplate, transformObject, foldArgument, foldArgumentsIntoNeededExpressions, reduce}
 use Rattle.rules.specs.Proofs.Unfold.{reduced, reduce-is}
 use Rattle.tree.specs.Kind as kind
 use borrow.Author.Tests.{eqb-true}
 use Rattle.reduce.specs.declared.walk.Part.{Part}
 use Rattle.reduce.specs.declared.walk.Part.the-variants.{InOrder, Argument, Template, Object}
-use Rattle.reduce.specs.Walked.{Progress, waits, wraps, leftOf, settledKept, settled, step, walked}
+use Rattle.reduce.specs.Walked.{Progress, wraps, leftOf, settledKept, walked}
 
 -- All that is left at the end, where what still waits makes a node at p.
 abbrev atEnd : (Place → List Tree → Tree) → Place → Progress → List Tree

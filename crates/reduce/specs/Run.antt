@@ -1,6 +1,6 @@
 -- The operation: from the check's answer to the rewritten file.
 use mathlib.Core.Path.{_≡_, refl, sym, ap, subst, _∙_}
-use mathlib.Core.Bool.{Bool, true, false, _&&_}
+use mathlib.Core.Bool.{Bool, true, _&&_}
 use mathlib.Core.List.{List, [], _∷_, _++_}
 use mathlib.Core.Logic.{⊎-elim}
 use Prim.Native.Nat.{ℕ, zero, suc, _+_, _*_, _-_, _<_, _≤_}
@@ -11,18 +11,16 @@ use lib.Seq.{ext-getD, getD-append-add, getD-drop}
 use borrow.Author.Tests.{lt-ltb, le-ltb, le-leb}
 use Rattle.le.specs.Le.{u16At}
 use Rattle.stated.specs.Stated.{refused, answered}
-use Rattle.tree.specs.Tree.{Tree, forest, one, records, size, depth}
+use Rattle.tree.specs.Tree.{Tree, forest, one, records, size}
 use Rattle.tree.specs.Below.{and-both, and-left, and-right, lt-or-le}
 use Rattle.tree.specs.Children.{nodeOk, formed, wellFormed}
-use Rattle.tree.specs.Fields.{versionOf, settingsOf, countOf, start}
-use Rattle.tree.specs.File.{preorder, bytes, header, fileBytes}
+use Rattle.tree.specs.Fields.{settingsOf, countOf, start}
+use Rattle.tree.specs.File.{bytes, header, fileBytes}
 use Rattle.tree.specs.Refusal.{reduceLimits, listEffectsLimits, refusal, treeOf, markOk, versionOk}
 use Rattle.tree.specs.Encoding.{Bytes, bytes-stand, length-bytes}
-use Rattle.tree.specs.Accepted.{passed, counted-parts, Accepted, accepted, FileOf, file-of, header-is, mark-long}
+use Rattle.tree.specs.Accepted.{passed, counted-parts, Accepted, accepted, FileOf, file-of, header-is}
 use Rattle.tree.specs.Kind as kind
 use Rattle.file.specs.Answer.{verdict, verdict-refused, verdict-accepted}
-use Rattle.rules.specs.Settings.{Settings}
-use Rattle.rules.specs.Effects.{effects}
 use Rattle.rules.specs.Reads.{Premise}
 use Rattle.rules.specs.Reduce.{reduce}
 use Rattle.rules.specs.Theorems.{kept-same-effects, removable-no-effects, at-most-twice, one-deeper, at-most-one, kept-within}
@@ -34,7 +32,7 @@ use Rattle.output.specs.Trees.{Wrote, spans-copied}
 use Rattle.reduce.specs.declared.Reduced.the-variants.{Refused, Removable, Kept}
 use Rattle.reduce.specs.Header.{Headed}
 use Rattle.reduce.specs.Given.{GivenTree, ReducedTree}
-use Rattle.reduce.specs.Answer.{number, numberBy, left, fileOf, rewritten, statedOf, answerList, KeptFile, Promised, Answers}
+use Rattle.reduce.specs.Answer.{number, numberBy, left, rewritten, answerList, KeptFile, Promised, Answers}
 
 -- An accepted file, and room for its answer.
 pub record GivenFile (s : List ℕ) (count settings : ℕ) (out : List ℕ) : Type 0 where
@@ -46,9 +44,6 @@ pub record GivenFile (s : List ℕ) (count settings : ℕ) (out : List ℕ) : Ty
 
 -- What holds of the answer to an accepted file.
 module _ (s : List ℕ) (bs : Bytes s) (e : refusal reduceLimits s ≡ 0) where
-  st : Settings
-  st = settingsWith (settingsOf s)
-
   A : Accepted reduceLimits s
   A = accepted reduceLimits s bs e
 

@@ -1,8 +1,8 @@
 -- Trees settled and waiting, as they stand in the output.
 use mathlib.Core.Path.{_≡_, refl, sym, ap, subst, _∙_}
-use mathlib.Core.Bool.{Bool, true, false}
-use mathlib.Core.List.{List, [], _∷_, _++_}
-use Prim.Native.Nat.{ℕ, suc, _+_, _*_, _<_, _≤_}
+use mathlib.Core.Bool.{Bool, false}
+use mathlib.Core.List.{List, [], _∷_}
+use Prim.Native.Nat.{ℕ, _+_, _*_, _<_, _≤_}
 use native.Mathlib.Omega.{arith}
 use lib.ListN.{length}
 use Rattle.tree.specs.Tree.{Head, Tree, forest, records}
@@ -11,7 +11,7 @@ use Rattle.rules.specs.Made.{placeOf, makeTemplate, makeObject}
 use Rattle.rules.specs.Reduce.{flush}
 use Rattle.readings.specs.Node.{Tells}
 use Rattle.output.specs.Bytes.{Kept, agree-all, kept-copied}
-use Rattle.output.specs.Trees.{Spans, Wrote, wrote-none, wrote-both, spans-agree, spans-append, stands-copied}
+use Rattle.output.specs.Trees.{Spans, Wrote, wrote-none, spans-append, stands-copied}
 use Rattle.rewrite.specs.Waiting.{Waits, GivenWaiting, Flushed, waits-none}
 use Rattle.reduce.specs.declared.walk.Part.{Part}
 use Rattle.reduce.specs.declared.walk.Part.the-variants.{InOrder, Argument, Template, Object}

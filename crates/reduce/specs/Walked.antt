@@ -8,19 +8,8 @@ use Rattle.rules.specs.Facts.{possibleSymbol}
 use Rattle.rules.specs.Made.{placeOf, makeTemplate, makeObject}
 use Rattle.rules.specs.Reduce.{flush, foldArgument, reduce}
 use Rattle.rules.specs.Proofs.Unfold.{reduced}
-use Rattle.handlers.specs.declared.outcome.Rewrite.{Rewrite}
-use Rattle.handlers.specs.declared.outcome.Rewrite.the-variants.{Sequence, Array, Comparison}
-use Rattle.handlers.specs.declared.outcome.Rewrite.the-variants as rewrites
 use Rattle.reduce.specs.declared.walk.Part.{Part}
 use Rattle.reduce.specs.declared.walk.Part.the-variants.{InOrder, Argument, Template, Object}
-
--- What a child is to a node that is rewritten.
-abbrev pub partOf : Rewrite → Part
-partOf Sequence = InOrder
-partOf Array = InOrder
-partOf rewrites.Template = Template
-partOf rewrites.Object = Object
-partOf Comparison = InOrder
 
 -- What a walk leaves: trees that are settled, and trees that wait behind them.
 pub record Progress : Type 0 where

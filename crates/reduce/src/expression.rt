@@ -5,8 +5,10 @@ use crate::walk;
 use crate::walk::Part;
 use crate::walk::Walked;
 use handlers::outcome::Outcome;
+use handlers::outcome::Rewrite;
 ghost use lib.ListN.{length};
 ghost use Rattle.readings.specs.Node.{settingsWith};
+ghost use Rattle.reduce.specs.Expression.{GivenRewritten};
 ghost use Rattle.reduce.specs.Given.{GivenTree, ReducedTree, GivenChild, ReducedChild, GivenChildren, ReducedChildren};
 
 // The trees from record at on, in size records.
@@ -35,34 +37,6 @@ fn reduce_children(
         p += subtree;
     }
     Walked { slot, next }
-}
-
-// The same by the part: each loop has its own, and no child asks which it is.
-fn reduce_list(
-    src: &[u8],
-    at: usize,
-    size: usize,
-    part: Part,
-    depth: usize,
-    settings: u8,
-    out: &mut [u8],
-    pos: usize,
-) -> Walked
-    requires { ⌜ GivenChildren (now src) at size depth pos (length (now out)) ⌝ }
-    ensures { λ r. ⌜ ReducedChildren (now (src .entry)) at size depth (settingsWith settings) part (now (out .entry)) (now (out .exit)) pos pos (r .slot) (r .next) ⌝ }
-{
-    match part {
-        Part::InOrder => {
-            reduce_children(src, at, size, Part::InOrder, depth, settings, out, pos)
-        }
-        Part::Argument => {
-            reduce_children(src, at, size, Part::Argument, depth, settings, out, pos)
-        }
-        Part::Template => {
-            reduce_children(src, at, size, Part::Template, depth, settings, out, pos)
-        }
-        Part::Object => reduce_children(src, at, size, Part::Object, depth, settings, out, pos),
-    }
 }
 
 // One child, behind those that are settled and those that wait.
@@ -115,10 +89,8 @@ pub fn remove_unused_expression(
             let left = reduce_children(src, first, rest, Part::InOrder, below, settings, out, pos);
             left.next
         }
-        Outcome::Rewritten(rewrite) => {
-            let part = walk::part_of(rewrite);
-            let left = reduce_list(src, first, rest, part, below, settings, out, pos + 1);
-            close::close_list(src, at, rewrite, out, pos, left.slot, left.next)
+        Outcome::Rewritten(made) => {
+            reduce_rewritten(src, at, size, made, depth, settings, out, pos)
         }
         Outcome::Arguments => {
             let callee = readings::first_size(src, at, 1);
@@ -130,5 +102,47 @@ pub fn remove_unused_expression(
         }
         Outcome::Addition => addition::remove_unused_addition(src, at, size, out, pos),
         Outcome::Class => classes::remove_unused_class(src, at, size, out, pos),
+    }
+}
+
+// A node that is rewritten over the list of what is left of its children, which stands behind the free record at pos.
+fn reduce_rewritten(
+    src: &[u8],
+    at: usize,
+    size: usize,
+    made: Rewrite,
+    depth: usize,
+    settings: u8,
+    out: &mut [u8],
+    pos: usize,
+) -> usize
+    requires { ⌜ GivenRewritten (now src) at size depth (settingsWith settings) made pos (length (now out)) ⌝ }
+    ensures { λ r. ⌜ ReducedTree (now (src .entry)) at size depth (settingsWith settings) (now (out .entry)) (now (out .exit)) pos r ⌝ }
+{
+    let first = at + 1;
+    let rest = size - 1;
+    let below = depth - 1;
+    let to = pos + 1;
+    match made {
+        Rewrite::Sequence => {
+            let left = reduce_children(src, first, rest, Part::InOrder, below, settings, out, to);
+            rewrite::remove_unused_sequence_expr(src, at, out, pos, left.next)
+        }
+        Rewrite::Array => {
+            let left = reduce_children(src, first, rest, Part::InOrder, below, settings, out, to);
+            rewrite::remove_unused_array_expr(src, at, out, pos, left.next)
+        }
+        Rewrite::Template => {
+            let left = reduce_children(src, first, rest, Part::Template, below, settings, out, to);
+            close::close_template(src, at, out, pos, left.slot, left.next)
+        }
+        Rewrite::Object => {
+            let left = reduce_children(src, first, rest, Part::Object, below, settings, out, to);
+            close::close_object(src, at, out, pos, left.slot, left.next)
+        }
+        Rewrite::Comparison => {
+            let left = reduce_children(src, first, rest, Part::InOrder, below, settings, out, to);
+            rewrite::join_kept(src, at, out, pos, left.next)
+        }
     }
 }

@@ -1,12 +1,10 @@
 // What is left of a list of children, child by child, as the parent asks for it.
 use fields::kind;
-use handlers::outcome::Rewrite;
-ghost use mathlib.Core.Path.{_≡_};
 ghost use Prim.Native.Nat.{_+_, _≤_};
 ghost use lib.ListN.{length};
 ghost use Rattle.tree.specs.Fields.{start};
 ghost use Rattle.readings.specs.Node.{Tells};
-ghost use Rattle.reduce.specs.Walked.{partOf, waits, wraps};
+ghost use Rattle.reduce.specs.Walked.{waits, wraps};
 ghost use Rattle.reduce.specs.Settled.{GivenSettled, SettlesKept, GivenSettle, Settles};
 
 // What a child is to its parent.
@@ -18,19 +16,6 @@ pub enum Part {
     Template,
     // of an object: a spread waits
     Object,
-}
-
-// What a child is to a node that is rewritten.
-pub fn part_of(rewrite: Rewrite) -> Part
-    ensures { λ r. ⌜ r ≡ partOf rewrite ⌝ }
-{
-    match rewrite {
-        Rewrite::Sequence => Part::InOrder,
-        Rewrite::Array => Part::InOrder,
-        Rewrite::Template => Part::Template,
-        Rewrite::Object => Part::Object,
-        Rewrite::Comparison => Part::InOrder,
-    }
 }
 
 // Where the trees that are settled end, and where those that wait behind a free record end: next is slot if none wait.

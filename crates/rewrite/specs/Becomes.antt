@@ -2,7 +2,7 @@
 use mathlib.Core.Path.{_≡_, refl, sym, ap, _∙_}
 use mathlib.Core.Bool.{Bool, true, false, cond}
 use mathlib.Core.List.{List, [], _∷_}
-use Prim.Native.Nat.{ℕ, suc, _+_, _*_, _-_, _<_, _≤_}
+use Prim.Native.Nat.{ℕ, _+_, _*_, _-_, _<_, _≤_}
 use native.Mathlib.Omega.{arith}
 use lib.ListN.{length}
 use Rattle.tree.specs.Tree.{Head, Tree, forest, records}
@@ -13,7 +13,7 @@ use Rattle.rules.specs.Made.{placeOf, makeSequence, withChildren}
 use Rattle.rules.specs.Reduce.{noneOneSeveral, staysWith, joinKept}
 use Rattle.output.specs.Bytes.{Recorded, Shifted, agree-all}
 use Rattle.output.specs.Trees.{Spans, Wrote, wrote-none, wrote-as, stands-copied, recorded-node}
-use Rattle.output.specs.Lists.{Spanned, Counts, AnyOf, spanned-inside}
+use Rattle.output.specs.Lists.{Spanned, Counts, AnyOf}
 use Rattle.rewrite.specs.Made.{GivenMade, Makes}
 
 -- The node at record `at` of s, and some list behind the free record pos of out.

@@ -1,19 +1,17 @@
 -- `join_sequence` over two trees that stand behind a free record.
-use mathlib.Core.Path.{_≡_, refl, sym, ap, subst, _∙_}
-use mathlib.Core.Bool.{Bool, true, false, cond}
+use mathlib.Core.Path.{_≡_, sym, ap, subst, _∙_}
 use mathlib.Core.List.{List, [], _∷_, _++_}
 use Prim.Native.Nat.{ℕ, suc, _+_, _*_, _-_, _<_, _≤_}
 use native.Mathlib.Omega.{arith}
-use lib.Dec.{eqb}
 use lib.ListN.{length}
 use borrow.Author.Tests.{eq-eqb, ne-eqb}
 use Rattle.tree.specs.Tree.{Head, Forest, Tree, trees, forest, forest-trees, records}
 use Rattle.tree.specs.Fields.{start, headAt, subtreeAt}
 use Rattle.tree.specs.Stands.{Stands}
-use Rattle.rules.specs.Handler.{isKind, isSequence}
-use Rattle.rules.specs.Made.{placeOf, makeSequence, joined, joinSequence}
-use Rattle.rules.specs.Reduce.{noneOneSeveral, joinKept}
-use Rattle.output.specs.Bytes.{Agree, Copied, Shifted, agree-all, agree-less, agree-trans, agree-copied, copied-part}
+use Rattle.rules.specs.Handler.{isKind}
+use Rattle.rules.specs.Made.{placeOf, makeSequence, joinSequence}
+use Rattle.rules.specs.Reduce.{joinKept}
+use Rattle.output.specs.Bytes.{Shifted, agree-less, agree-trans, agree-copied, copied-part}
 use Rattle.output.specs.Trees.{Spans, Wrote, wrote-as, spans-append, stands-copied}
 use Rattle.output.specs.Lists.{first-spans, rest-spans}
 use Rattle.rewrite.specs.Made.{GivenMade, Makes}

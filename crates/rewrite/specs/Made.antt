@@ -1,18 +1,17 @@
 -- A made node over the trees that stand behind its record.
-use mathlib.Core.Path.{_≡_, refl, sym, ap, _∙_}
+use mathlib.Core.Path.{_≡_, sym, ap, _∙_}
 use mathlib.Core.Bool.{Bool, true, false, cond}
 use mathlib.Core.List.{List, [], _∷_}
-use Prim.Native.Nat.{ℕ, suc, _+_, _-_, _<_, _≤_}
+use Prim.Native.Nat.{ℕ, _+_, _-_, _<_, _≤_}
 use native.Mathlib.Omega.{arith}
 use lib.ListN.{length}
-use Rattle.tree.specs.Tree.{Place, Tree, forest, count, records}
+use Rattle.tree.specs.Tree.{Place, Tree, forest, records}
 use Rattle.tree.specs.Fields.{start}
-use Rattle.rules.specs.Lists.{any}
 use Rattle.rules.specs.Facts.{flagged}
 use Rattle.rules.specs.Made.{made, madeHead, flagOf, makeSequence, makeObject, makeTemplate}
 use Rattle.tree.specs.Kind as kind
-use Rattle.output.specs.Bytes.{Agree, Kept, Recorded, agree-all}
-use Rattle.output.specs.Trees.{Spans, Wrote, wrote-as, recorded-node, count-forest}
+use Rattle.output.specs.Bytes.{Kept, Recorded, agree-all}
+use Rattle.output.specs.Trees.{Spans, Wrote, wrote-as, recorded-node}
 use Rattle.output.specs.Lists.{Spanned, Counts, AnyOf}
 
 -- Some list stands behind record pos, to record end, and there is room for the record.

@@ -1,6 +1,6 @@
 -- Trees that wait, behind a free record that is made when they stop waiting.
 use mathlib.Core.Path.{_≡_, refl, sym, ap, _∙_}
-use mathlib.Core.Bool.{Bool, true, false, cond}
+use mathlib.Core.Bool.{Bool, true, false}
 use mathlib.Core.List.{List, [], _∷_, _++_}
 use Prim.Native.Nat.{ℕ, suc, _+_, _-_, _<_, _≤_}
 use native.Mathlib.Omega.{arith}
@@ -10,7 +10,7 @@ use Rattle.tree.specs.Fields.{start, headAt}
 use Rattle.tree.specs.Stands.{Stands}
 use Rattle.rules.specs.Lists.{keepIf}
 use Rattle.rules.specs.Facts.{flagged}
-use Rattle.rules.specs.Made.{placeOf, made, madeHead, flagOf, makeArray}
+use Rattle.rules.specs.Made.{placeOf, madeHead, flagOf, makeArray}
 use Rattle.rules.specs.Reduce.{flush}
 use Rattle.readings.specs.Node.{Node, Tells}
 use Rattle.tree.specs.Kind as kind

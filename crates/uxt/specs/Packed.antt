@@ -3,7 +3,6 @@ use mathlib.Core.Path.{_≡_, sym, ap, _∙_}
 use mathlib.Core.List.{List, [], _∷_}
 use Prim.Native.Nat.{ℕ, _+_, _*_}
 use native.Mathlib.Nat.{add-zero, zero-add}
-use native.Mathlib.Omega.{arith}
 use lib.ListN.{length, drop}
 use Rattle.stated.specs.Stated.{Stated, refused, answered}
 use Rattle.effects.specs.Answer.{number, effectList, statedOf, entriesOf}

@@ -1,5 +1,5 @@
 use borrow.Author.Needs.{needs}
-use mathlib.Core.Path.{refl, ap, _∙_}
+use mathlib.Core.Path.{refl}
 use Rattle.le.specs.Le.{set16}
 use Rattle.le.proofs.put16.Statement.{statement}
 use Rattle.le.proofs.put16.Tie as tie

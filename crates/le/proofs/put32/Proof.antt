@@ -1,5 +1,4 @@
 use borrow.Author.Needs.{needs}
-use mathlib.Core.Path.{refl, ap, _∙_}
 use Rattle.le.specs.Le.{set32}
 use Rattle.le.proofs.put32.Statement.{statement}
 use Rattle.le.proofs.put32.Tie as tie

@@ -1,8 +1,7 @@
-use mathlib.Core.Path.{refl}
 use Prim.Native.Nat.{_-_}
 use native.Mathlib.Omega.{arith}
 use Rattle.rules.specs.Facts.{flagged}
-use Rattle.output.specs.Lists.{Searching, search-start, search-done, search-found, search-on, spanned-inside, spanned-some, spanned-within, kind-is, kind-not}
+use Rattle.output.specs.Lists.{Searching, search-start, search-done, search-found, search-on, spanned-inside, spanned-some, spanned-within}
 use Rattle.output.proofs.list.any_flagged.Statement.{statement}
 use Rattle.output.proofs.list.any_flagged.Tie as tie
 

@@ -1,6 +1,4 @@
-use mathlib.Core.Path.{_∙_, ap}
 use native.Mathlib.Omega.{arith}
-use Rattle.le.specs.Le.{set16}
 use Rattle.output.specs.Bytes.{patched}
 use borrow.Author.Needs.{needs}
 use Rattle.output.proofs.record.patch.Statement.{statement}

@@ -1,4 +1,3 @@
-use native.Mathlib.Omega.{arith}
 use Rattle.rules.specs.Made.{makeObject}
 use Rattle.rewrite.specs.Made.{made-spanned, makes-object}
 use Rattle.rewrite.specs.Waiting.{flushed-none, waiting-given, flushed-made}

@@ -1,5 +1,4 @@
 use mathlib.Core.Path.{refl}
-use native.Mathlib.Omega.{arith}
 use Rattle.rewrite.specs.Waiting.{wrapped-gone, wrapped-kept}
 use borrow.Author.Needs.{needs}
 use Rattle.rewrite.proofs.waiting.wrap_spread.Statement.{statement}

@@ -1,8 +1,8 @@
-use mathlib.Core.Path.{sym}
+use Rattle.handlers.specs.declared.outcome.Rewrite.the-variants.{Sequence, Array, Comparison}
+use Rattle.handlers.specs.declared.outcome.Rewrite.the-variants as rewrites
+use Rattle.reduce.specs.Expression.{as-outcome, as-made, given-copy, inner-given, outer-given, whole-given, removable-done, unchanged-done, unwrapped-done, in-order-list, sequence-done, array-done, comparison-done, walked-given, template-done, object-done, callee-first, callee-within, arguments-given, arguments-list, arguments-done, addition-done, class-given, class-done}
 use Rattle.handlers.specs.declared.outcome.Outcome.the-variants.{Removable, Unchanged, Unwrapped, Rewritten, Arguments, Addition, Class}
-use Rattle.reduce.specs.Walked.{partOf}
-use Rattle.reduce.specs.Children.{Walking, walk-start, walk-done, walk-subtree, child-some, child-within, child-given, walk-on, walked-as}
-use Rattle.reduce.specs.Expression.{as-outcome, given-copy, inner-given, outer-given, whole-given, removable-done, unchanged-done, unwrapped-done, walked-given, rewritten-done, callee-first, callee-within, arguments-given, arguments-list, arguments-done, addition-done, class-given, class-done}
+use Rattle.reduce.specs.Children.{Walking, walk-start, walk-done, walk-subtree, child-some, child-within, child-given, walk-on}
 use native.Mathlib.Omega.{arith}
 use Prim.Native.Nat.{_+_, _*_, _-_}
 use borrow.Author.Needs.{needs}
@@ -15,48 +15,51 @@ use borrow.Fn.Kinds.{In}
 use borrow.Fn.PlainCycle.{Measures, is, falls, and}
 use Rattle.reduce.proofs.expression.reduce_child.Reads as reduce-child
 use Rattle.reduce.proofs.expression.reduce_child.Kinds as reduce-child-kinds
-use Rattle.reduce.proofs.expression.+reduce_child+reduce_children+reduce_list+remove_unused_expression.Lts-reduce_child as reduce-child-lts
+use Rattle.reduce.proofs.expression.+reduce_child+reduce_children+reduce_rewritten+remove_unused_expression.Lts-reduce_child as reduce-child-lts
 use Rattle.reduce.proofs.expression.reduce_children.Reads as reduce-children
 use Rattle.reduce.proofs.expression.reduce_children.Kinds as reduce-children-kinds
-use Rattle.reduce.proofs.expression.+reduce_child+reduce_children+reduce_list+remove_unused_expression.Lts-reduce_children as reduce-children-lts
-use Rattle.reduce.proofs.expression.reduce_list.Reads as reduce-list
-use Rattle.reduce.proofs.expression.reduce_list.Kinds as reduce-list-kinds
-use Rattle.reduce.proofs.expression.+reduce_child+reduce_children+reduce_list+remove_unused_expression.Lts-reduce_list as reduce-list-lts
+use Rattle.reduce.proofs.expression.+reduce_child+reduce_children+reduce_rewritten+remove_unused_expression.Lts-reduce_children as reduce-children-lts
+use Rattle.reduce.proofs.expression.reduce_rewritten.Reads as reduce-rewritten
+use Rattle.reduce.proofs.expression.reduce_rewritten.Kinds as reduce-rewritten-kinds
+use Rattle.reduce.proofs.expression.+reduce_child+reduce_children+reduce_rewritten+remove_unused_expression.Lts-reduce_rewritten as reduce-rewritten-lts
 use Rattle.reduce.proofs.expression.remove_unused_expression.Reads as remove-unused-expression
 use Rattle.reduce.proofs.expression.remove_unused_expression.Kinds as remove-unused-expression-kinds
-use Rattle.reduce.proofs.expression.+reduce_child+reduce_children+reduce_list+remove_unused_expression.Lts-remove_unused_expression as remove-unused-expression-lts
+use Rattle.reduce.proofs.expression.+reduce_child+reduce_children+reduce_rewritten+remove_unused_expression.Lts-remove_unused_expression as remove-unused-expression-lts
 use Rattle.addition.proofs.remove_unused_addition.Reads as remove-unused-addition-reads
 use Rattle.classes.proofs.remove_unused_class.Reads as remove-unused-class-reads
 use Rattle.fields.proofs.subtree_at.Reads as subtree-at-reads
 use Rattle.handlers.proofs.handle.Reads as handle-reads
 use Rattle.output.proofs.copy_tree.Reads as copy-tree-reads
 use Rattle.readings.proofs.first_size.Reads as first-size-reads
-use Rattle.reduce.proofs.close.close_list.Reads as close-list-reads
-use Rattle.reduce.proofs.walk.part_of.Reads as part-of-reads
+use Rattle.reduce.proofs.close.close_object.Reads as close-object-reads
+use Rattle.reduce.proofs.close.close_template.Reads as close-template-reads
 use Rattle.reduce.proofs.walk.settle.Reads as settle-reads
 use Rattle.reduce.proofs.walk.waits_at.Reads as waits-at-reads
 use Rattle.reduce.proofs.walk.wraps_at.Reads as wraps-at-reads
 use Rattle.rewrite.proofs.none_one_several.Reads as none-one-several-reads
+use Rattle.rewrite.proofs.remove_unused_array_expr.Reads as remove-unused-array-expr-reads
+use Rattle.rewrite.proofs.remove_unused_sequence_expr.Reads as remove-unused-sequence-expr-reads
+use Rattle.rewrite.proofs.join_kept.Reads as join-kept-reads
 use Rattle.rewrite.proofs.hold.Reads as hold-reads
 use Rattle.rewrite.proofs.wrap_spread.Reads as wrap-spread-reads
-use Rattle.reduce.proofs.expression.+reduce_child+reduce_children+reduce_list+remove_unused_expression.{
+use Rattle.reduce.proofs.expression.+reduce_child+reduce_children+reduce_rewritten+remove_unused_expression.{
   statement,
 }
-use Rattle.reduce.proofs.expression.+reduce_child+reduce_children+reduce_list+remove_unused_expression.Tie.{
+use Rattle.reduce.proofs.expression.+reduce_child+reduce_children+reduce_rewritten+remove_unused_expression.Tie.{
   close,
 }
 
 abbrev μ-reduce-child : Measures 2 reduce-child-kinds.ps ℕ
-μ-reduce-child κs a = a .1 .1 .1 .1 .0 * 1048576 + a .1 .1 .0 * 8 + 2
+μ-reduce-child κs a = a .1 .1 .1 .1 .0 * 1048576 + a .1 .1 .0 * 8 + 3
 
 abbrev μ-reduce-children : Measures 2 reduce-children-kinds.ps ℕ
-μ-reduce-children κs a = a .1 .1 .1 .1 .0 * 1048576 + a .1 .1 .0 * 8 + 3
+μ-reduce-children κs a = a .1 .1 .1 .1 .0 * 1048576 + a .1 .1 .0 * 8 + 4
 
-abbrev μ-reduce-list : Measures 2 reduce-list-kinds.ps ℕ
-μ-reduce-list κs a = a .1 .1 .1 .1 .0 * 1048576 + a .1 .1 .0 * 8 + 4
+abbrev μ-reduce-rewritten : Measures 2 reduce-rewritten-kinds.ps ℕ
+μ-reduce-rewritten κs a = a .1 .1 .1 .1 .0 * 1048576 + a .1 .1 .0 * 8 + 1
 
 abbrev μ-remove-unused-expression : Measures 2 remove-unused-expression-kinds.ps ℕ
-μ-remove-unused-expression κs a = a .1 .1 .1 .0 * 1048576 + a .1 .1 .0 * 8 + 1
+μ-remove-unused-expression κs a = a .1 .1 .1 .0 * 1048576 + a .1 .1 .0 * 8 + 2
 
 abbrev reduce-child-at : ℕ → In 2 reduce-child-kinds.ps
 reduce-child-at t =
@@ -86,13 +89,21 @@ reduce-children-below t =
     (falls 2 reduce-children-kinds.ps _<_ μ-reduce-children t)
     reduce-children.Pre
 
-abbrev reduce-list-at : ℕ → In 2 reduce-list-kinds.ps
-reduce-list-at t =
-    and 2 reduce-list-kinds.ps (is 2 reduce-list-kinds.ps μ-reduce-list t) reduce-list.Pre
+abbrev reduce-rewritten-at : ℕ → In 2 reduce-rewritten-kinds.ps
+reduce-rewritten-at t =
+    and
+    2
+    reduce-rewritten-kinds.ps
+    (is 2 reduce-rewritten-kinds.ps μ-reduce-rewritten t)
+    reduce-rewritten.Pre
 
-abbrev reduce-list-below : ℕ → In 2 reduce-list-kinds.ps
-reduce-list-below t =
-    and 2 reduce-list-kinds.ps (falls 2 reduce-list-kinds.ps _<_ μ-reduce-list t) reduce-list.Pre
+abbrev reduce-rewritten-below : ℕ → In 2 reduce-rewritten-kinds.ps
+reduce-rewritten-below t =
+    and
+    2
+    reduce-rewritten-kinds.ps
+    (falls 2 reduce-rewritten-kinds.ps _<_ μ-reduce-rewritten t)
+    reduce-rewritten.Pre
 
 abbrev remove-unused-expression-at : ℕ → In 2 remove-unused-expression-kinds.ps
 remove-unused-expression-at t =
@@ -116,11 +127,11 @@ reduce-child-calls t = (waits-at-reads.Asked, waits-at-reads.Learnt, hold-reads.
 abbrev reduce-children-calls : ℕ → reduce-children-lts.Claims
 reduce-children-calls t = (subtree-at-reads.Asked, subtree-at-reads.Learnt, reduce-child-below t, reduce-child.Post)
 
-abbrev reduce-list-calls : ℕ → reduce-list-lts.Claims
-reduce-list-calls t = (reduce-children-below t, reduce-children.Post)
+abbrev reduce-rewritten-calls : ℕ → reduce-rewritten-lts.Claims
+reduce-rewritten-calls t = (reduce-children-below t, reduce-children.Post, remove-unused-sequence-expr-reads.Asked, remove-unused-sequence-expr-reads.Learnt, remove-unused-array-expr-reads.Asked, remove-unused-array-expr-reads.Learnt, close-template-reads.Asked, close-template-reads.Learnt, close-object-reads.Asked, close-object-reads.Learnt, join-kept-reads.Asked, join-kept-reads.Learnt)
 
 abbrev remove-unused-expression-calls : ℕ → remove-unused-expression-lts.Claims
-remove-unused-expression-calls t = (handle-reads.Asked, handle-reads.Learnt, copy-tree-reads.Asked, copy-tree-reads.Learnt, reduce-children-below t, reduce-children.Post, part-of-reads.Asked, part-of-reads.Learnt, reduce-list-below t, reduce-list.Post, close-list-reads.Asked, close-list-reads.Learnt, first-size-reads.Asked, first-size-reads.Learnt, none-one-several-reads.Asked, none-one-several-reads.Learnt, remove-unused-addition-reads.Asked, remove-unused-addition-reads.Learnt, remove-unused-class-reads.Asked, remove-unused-class-reads.Learnt)
+remove-unused-expression-calls t = (handle-reads.Asked, handle-reads.Learnt, copy-tree-reads.Asked, copy-tree-reads.Learnt, reduce-children-below t, reduce-children.Post, reduce-rewritten-below t, reduce-rewritten.Post, first-size-reads.Asked, first-size-reads.Learnt, none-one-several-reads.Asked, none-one-several-reads.Learnt, remove-unused-addition-reads.Asked, remove-unused-addition-reads.Learnt, remove-unused-class-reads.Asked, remove-unused-class-reads.Learnt)
 
 reduce-child-waits-at-requires : (t : ℕ) → reduce-child-lts.Need-waits-at-requires (reduce-child-calls t) (reduce-child-at t) reduce-child.Post
 reduce-child-waits-at-requires t c κs = child-inside (c .before .before .pre .1)
@@ -195,53 +206,92 @@ reduce-children-same-length t c = search needs
 reduce-children-returns : (t : ℕ) → reduce-children-lts.Need-returns (reduce-children-calls t) (reduce-children-at t) reduce-children.Post reduce-children-Inv-loop reduce-children-μ-loop
 reduce-children-returns t c = walk-done (c .before .loop .inv) (c .loop-test .left)
 
-reduce-list-enum-told : (t : ℕ) → reduce-list-lts.Need-enum-told (reduce-list-calls t) (reduce-list-at t) reduce-list.Post
-reduce-list-enum-told t c = search needs
+reduce-rewritten-add-first : (t : ℕ) → reduce-rewritten-lts.Need-add-first (reduce-rewritten-calls t) (reduce-rewritten-at t) reduce-rewritten.Post
+reduce-rewritten-add-first t c = omega (arith, given-inside (c .before .before .pre .1 .given))
 
-reduce-list-reduce-children-requires : (t : ℕ) → reduce-list-lts.Need-reduce-children-requires (reduce-list-calls t) (reduce-list-at t) reduce-list.Post
-reduce-list-reduce-children-requires t c κs = (omega (arith, c .before .before .before .before .before .pre .0), c .before .before .before .before .before .pre .1)
+reduce-rewritten-sub-rest : (t : ℕ) → reduce-rewritten-lts.Need-sub-rest (reduce-rewritten-calls t) (reduce-rewritten-at t) reduce-rewritten.Post
+reduce-rewritten-sub-rest t c = omega (arith, some-size ((c .before .before .pre .1 .given) .input))
 
-reduce-list-enum-told-2 : (t : ℕ) → reduce-list-lts.Need-enum-told-2 (reduce-list-calls t) (reduce-list-at t) reduce-list.Post
-reduce-list-enum-told-2 t c = search needs
+reduce-rewritten-sub-below : (t : ℕ) → reduce-rewritten-lts.Need-sub-below (reduce-rewritten-calls t) (reduce-rewritten-at t) reduce-rewritten.Post
+reduce-rewritten-sub-below t c = omega (arith, some-depth ((c .before .before .pre .1 .given) .input))
 
-reduce-list-reduce-children-requires-2 : (t : ℕ) → reduce-list-lts.Need-reduce-children-requires-2 (reduce-list-calls t) (reduce-list-at t) reduce-list.Post
-reduce-list-reduce-children-requires-2 t c κs = (omega (arith, c .before .before .before .before .before .pre .0), c .before .before .before .before .before .pre .1)
+reduce-rewritten-add-to : (t : ℕ) → reduce-rewritten-lts.Need-add-to (reduce-rewritten-calls t) (reduce-rewritten-at t) reduce-rewritten.Post
+reduce-rewritten-add-to t c = omega (arith, (c .before .before .pre .1 .given) .fits, some-size ((c .before .before .pre .1 .given) .input))
 
-reduce-list-enum-told-3 : (t : ℕ) → reduce-list-lts.Need-enum-told-3 (reduce-list-calls t) (reduce-list-at t) reduce-list.Post
-reduce-list-enum-told-3 t c = search needs
+reduce-rewritten-enum-told : (t : ℕ) → reduce-rewritten-lts.Need-enum-told (reduce-rewritten-calls t) (reduce-rewritten-at t) reduce-rewritten.Post
+reduce-rewritten-enum-told t c = search needs
 
-reduce-list-reduce-children-requires-3 : (t : ℕ) → reduce-list-lts.Need-reduce-children-requires-3 (reduce-list-calls t) (reduce-list-at t) reduce-list.Post
-reduce-list-reduce-children-requires-3 t c κs = (omega (arith, c .before .before .before .before .before .pre .0), c .before .before .before .before .before .pre .1)
+reduce-rewritten-reduce-children-requires : (t : ℕ) → reduce-rewritten-lts.Need-reduce-children-requires (reduce-rewritten-calls t) (reduce-rewritten-at t) reduce-rewritten.Post
+reduce-rewritten-reduce-children-requires t c κs = (omega (arith, c .before .before .before .before .before .pre .0, (c .before .before .before .before .before .pre .1 .given) .input .small, some-depth ((c .before .before .before .before .before .pre .1 .given) .input), some-size ((c .before .before .before .before .before .pre .1 .given) .input)), inner-given (c .before .before .before .before .before .pre .1 .given))
 
-reduce-list-enum-told-4 : (t : ℕ) → reduce-list-lts.Need-enum-told-4 (reduce-list-calls t) (reduce-list-at t) reduce-list.Post
-reduce-list-enum-told-4 t c = search needs
+reduce-rewritten-remove-unused-sequence-expr-requires : (t : ℕ) → reduce-rewritten-lts.Need-remove-unused-sequence-expr-requires (reduce-rewritten-calls t) (reduce-rewritten-at t) reduce-rewritten.Post
+reduce-rewritten-remove-unused-sequence-expr-requires t c κs = in-order-list (c .before .before .before .reduce-children .ensures) (c .before .before .before .before .before .before .before .before .before .pre .1 .given) (c .before .before .before .reduce-children .kept .1 .1 .1 .1 .1 .1 .0)
 
-reduce-list-reduce-children-requires-4 : (t : ℕ) → reduce-list-lts.Need-reduce-children-requires-4 (reduce-list-calls t) (reduce-list-at t) reduce-list.Post
-reduce-list-reduce-children-requires-4 t c κs = (omega (arith, c .before .before .before .before .before .pre .0), c .before .before .before .before .before .pre .1)
+reduce-rewritten-enum-told-2 : (t : ℕ) → reduce-rewritten-lts.Need-enum-told-2 (reduce-rewritten-calls t) (reduce-rewritten-at t) reduce-rewritten.Post
+reduce-rewritten-enum-told-2 t c = search needs
 
-reduce-list-same-length : (t : ℕ) → reduce-list-lts.Need-same-length (reduce-list-calls t) (reduce-list-at t) reduce-list.Post
-reduce-list-same-length t c = search needs
+reduce-rewritten-reduce-children-requires-2 : (t : ℕ) → reduce-rewritten-lts.Need-reduce-children-requires-2 (reduce-rewritten-calls t) (reduce-rewritten-at t) reduce-rewritten.Post
+reduce-rewritten-reduce-children-requires-2 t c κs = (omega (arith, c .before .before .before .before .before .pre .0, (c .before .before .before .before .before .pre .1 .given) .input .small, some-depth ((c .before .before .before .before .before .pre .1 .given) .input), some-size ((c .before .before .before .before .before .pre .1 .given) .input)), inner-given (c .before .before .before .before .before .pre .1 .given))
 
-reduce-list-returns : (t : ℕ) → reduce-list-lts.Need-returns (reduce-list-calls t) (reduce-list-at t) reduce-list.Post
-reduce-list-returns t c = walked-as _ (sym (c .before .before .before .before .enum-told .given .1)) (c .before .before .reduce-children .ensures)
+reduce-rewritten-remove-unused-array-expr-requires : (t : ℕ) → reduce-rewritten-lts.Need-remove-unused-array-expr-requires (reduce-rewritten-calls t) (reduce-rewritten-at t) reduce-rewritten.Post
+reduce-rewritten-remove-unused-array-expr-requires t c κs = in-order-list (c .before .before .before .reduce-children2 .ensures) (c .before .before .before .before .before .before .before .before .before .pre .1 .given) (c .before .before .before .reduce-children2 .kept .1 .1 .1 .1 .1 .1 .0)
 
-reduce-list-same-length-2 : (t : ℕ) → reduce-list-lts.Need-same-length-2 (reduce-list-calls t) (reduce-list-at t) reduce-list.Post
-reduce-list-same-length-2 t c = search needs
+reduce-rewritten-enum-told-3 : (t : ℕ) → reduce-rewritten-lts.Need-enum-told-3 (reduce-rewritten-calls t) (reduce-rewritten-at t) reduce-rewritten.Post
+reduce-rewritten-enum-told-3 t c = search needs
 
-reduce-list-returns-2 : (t : ℕ) → reduce-list-lts.Need-returns-2 (reduce-list-calls t) (reduce-list-at t) reduce-list.Post
-reduce-list-returns-2 t c = walked-as _ (sym (c .before .before .before .before .enum-told2 .given .1)) (c .before .before .reduce-children2 .ensures)
+reduce-rewritten-reduce-children-requires-3 : (t : ℕ) → reduce-rewritten-lts.Need-reduce-children-requires-3 (reduce-rewritten-calls t) (reduce-rewritten-at t) reduce-rewritten.Post
+reduce-rewritten-reduce-children-requires-3 t c κs = (omega (arith, c .before .before .before .before .before .pre .0, (c .before .before .before .before .before .pre .1 .given) .input .small, some-depth ((c .before .before .before .before .before .pre .1 .given) .input), some-size ((c .before .before .before .before .before .pre .1 .given) .input)), inner-given (c .before .before .before .before .before .pre .1 .given))
 
-reduce-list-same-length-3 : (t : ℕ) → reduce-list-lts.Need-same-length-3 (reduce-list-calls t) (reduce-list-at t) reduce-list.Post
-reduce-list-same-length-3 t c = search needs
+reduce-rewritten-close-template-requires : (t : ℕ) → reduce-rewritten-lts.Need-close-template-requires (reduce-rewritten-calls t) (reduce-rewritten-at t) reduce-rewritten.Post
+reduce-rewritten-close-template-requires t c κs = walked-given (c .before .before .before .reduce-children3 .ensures) (c .before .before .before .before .before .before .before .before .before .pre .1 .given) (c .before .before .before .reduce-children3 .kept .1 .1 .1 .1 .1 .1 .0)
 
-reduce-list-returns-3 : (t : ℕ) → reduce-list-lts.Need-returns-3 (reduce-list-calls t) (reduce-list-at t) reduce-list.Post
-reduce-list-returns-3 t c = walked-as _ (sym (c .before .before .before .before .enum-told3 .given .1)) (c .before .before .reduce-children3 .ensures)
+reduce-rewritten-enum-told-4 : (t : ℕ) → reduce-rewritten-lts.Need-enum-told-4 (reduce-rewritten-calls t) (reduce-rewritten-at t) reduce-rewritten.Post
+reduce-rewritten-enum-told-4 t c = search needs
 
-reduce-list-same-length-4 : (t : ℕ) → reduce-list-lts.Need-same-length-4 (reduce-list-calls t) (reduce-list-at t) reduce-list.Post
-reduce-list-same-length-4 t c = search needs
+reduce-rewritten-reduce-children-requires-4 : (t : ℕ) → reduce-rewritten-lts.Need-reduce-children-requires-4 (reduce-rewritten-calls t) (reduce-rewritten-at t) reduce-rewritten.Post
+reduce-rewritten-reduce-children-requires-4 t c κs = (omega (arith, c .before .before .before .before .before .pre .0, (c .before .before .before .before .before .pre .1 .given) .input .small, some-depth ((c .before .before .before .before .before .pre .1 .given) .input), some-size ((c .before .before .before .before .before .pre .1 .given) .input)), inner-given (c .before .before .before .before .before .pre .1 .given))
 
-reduce-list-returns-4 : (t : ℕ) → reduce-list-lts.Need-returns-4 (reduce-list-calls t) (reduce-list-at t) reduce-list.Post
-reduce-list-returns-4 t c = walked-as _ (sym (c .before .before .before .before .enum-told4 .given .1)) (c .before .before .reduce-children4 .ensures)
+reduce-rewritten-close-object-requires : (t : ℕ) → reduce-rewritten-lts.Need-close-object-requires (reduce-rewritten-calls t) (reduce-rewritten-at t) reduce-rewritten.Post
+reduce-rewritten-close-object-requires t c κs = walked-given (c .before .before .before .reduce-children4 .ensures) (c .before .before .before .before .before .before .before .before .before .pre .1 .given) (c .before .before .before .reduce-children4 .kept .1 .1 .1 .1 .1 .1 .0)
+
+reduce-rewritten-enum-told-5 : (t : ℕ) → reduce-rewritten-lts.Need-enum-told-5 (reduce-rewritten-calls t) (reduce-rewritten-at t) reduce-rewritten.Post
+reduce-rewritten-enum-told-5 t c = search needs
+
+reduce-rewritten-reduce-children-requires-5 : (t : ℕ) → reduce-rewritten-lts.Need-reduce-children-requires-5 (reduce-rewritten-calls t) (reduce-rewritten-at t) reduce-rewritten.Post
+reduce-rewritten-reduce-children-requires-5 t c κs = (omega (arith, c .before .before .before .before .before .pre .0, (c .before .before .before .before .before .pre .1 .given) .input .small, some-depth ((c .before .before .before .before .before .pre .1 .given) .input), some-size ((c .before .before .before .before .before .pre .1 .given) .input)), inner-given (c .before .before .before .before .before .pre .1 .given))
+
+reduce-rewritten-join-kept-requires : (t : ℕ) → reduce-rewritten-lts.Need-join-kept-requires (reduce-rewritten-calls t) (reduce-rewritten-at t) reduce-rewritten.Post
+reduce-rewritten-join-kept-requires t c κs = in-order-list (c .before .before .before .reduce-children5 .ensures) (c .before .before .before .before .before .before .before .before .before .pre .1 .given) (c .before .before .before .reduce-children5 .kept .1 .1 .1 .1 .1 .1 .0)
+
+reduce-rewritten-same-length : (t : ℕ) → reduce-rewritten-lts.Need-same-length (reduce-rewritten-calls t) (reduce-rewritten-at t) reduce-rewritten.Post
+reduce-rewritten-same-length t c = search needs
+
+reduce-rewritten-returns : (t : ℕ) → reduce-rewritten-lts.Need-returns (reduce-rewritten-calls t) (reduce-rewritten-at t) reduce-rewritten.Post
+reduce-rewritten-returns t c = sequence-done (c .before .before .before .before .before .before .reduce-children .ensures) (as-made Sequence (c .before .before .before .before .before .before .before .before .enum-told .given .1) (c .before .before .before .before .before .before .before .before .before .before .before .before .pre .1 .handles)) (c .before .before .remove-unused-sequence-expr .ensures)
+
+reduce-rewritten-same-length-2 : (t : ℕ) → reduce-rewritten-lts.Need-same-length-2 (reduce-rewritten-calls t) (reduce-rewritten-at t) reduce-rewritten.Post
+reduce-rewritten-same-length-2 t c = search needs
+
+reduce-rewritten-returns-2 : (t : ℕ) → reduce-rewritten-lts.Need-returns-2 (reduce-rewritten-calls t) (reduce-rewritten-at t) reduce-rewritten.Post
+reduce-rewritten-returns-2 t c = array-done (c .before .before .before .before .before .before .reduce-children2 .ensures) (as-made Array (c .before .before .before .before .before .before .before .before .enum-told2 .given .1) (c .before .before .before .before .before .before .before .before .before .before .before .before .pre .1 .handles)) (c .before .before .remove-unused-array-expr .ensures)
+
+reduce-rewritten-same-length-3 : (t : ℕ) → reduce-rewritten-lts.Need-same-length-3 (reduce-rewritten-calls t) (reduce-rewritten-at t) reduce-rewritten.Post
+reduce-rewritten-same-length-3 t c = search needs
+
+reduce-rewritten-returns-3 : (t : ℕ) → reduce-rewritten-lts.Need-returns-3 (reduce-rewritten-calls t) (reduce-rewritten-at t) reduce-rewritten.Post
+reduce-rewritten-returns-3 t c = template-done (c .before .before .before .before .before .before .reduce-children3 .ensures) (as-made rewrites.Template (c .before .before .before .before .before .before .before .before .enum-told3 .given .1) (c .before .before .before .before .before .before .before .before .before .before .before .before .pre .1 .handles)) (c .before .before .close-template .ensures)
+
+reduce-rewritten-same-length-4 : (t : ℕ) → reduce-rewritten-lts.Need-same-length-4 (reduce-rewritten-calls t) (reduce-rewritten-at t) reduce-rewritten.Post
+reduce-rewritten-same-length-4 t c = search needs
+
+reduce-rewritten-returns-4 : (t : ℕ) → reduce-rewritten-lts.Need-returns-4 (reduce-rewritten-calls t) (reduce-rewritten-at t) reduce-rewritten.Post
+reduce-rewritten-returns-4 t c = object-done (c .before .before .before .before .before .before .reduce-children4 .ensures) (as-made rewrites.Object (c .before .before .before .before .before .before .before .before .enum-told4 .given .1) (c .before .before .before .before .before .before .before .before .before .before .before .before .pre .1 .handles)) (c .before .before .close-object .ensures)
+
+reduce-rewritten-same-length-5 : (t : ℕ) → reduce-rewritten-lts.Need-same-length-5 (reduce-rewritten-calls t) (reduce-rewritten-at t) reduce-rewritten.Post
+reduce-rewritten-same-length-5 t c = search needs
+
+reduce-rewritten-returns-5 : (t : ℕ) → reduce-rewritten-lts.Need-returns-5 (reduce-rewritten-calls t) (reduce-rewritten-at t) reduce-rewritten.Post
+reduce-rewritten-returns-5 t c = comparison-done (c .before .before .before .before .before .before .reduce-children5 .ensures) (as-made Comparison (c .before .before .before .before .before .before .before .before .enum-told5 .given .1) (c .before .before .before .before .before .before .before .before .before .before .before .before .pre .1 .handles)) (c .before .before .join-kept .ensures)
 
 remove-unused-expression-handle-requires : (t : ℕ) → remove-unused-expression-lts.Need-handle-requires (remove-unused-expression-calls t) (remove-unused-expression-at t) remove-unused-expression.Post
 remove-unused-expression-handle-requires t c κs = given-node (c .before .before .pre .1)
@@ -273,17 +323,8 @@ remove-unused-expression-reduce-children-requires t c κs = (omega (arith, c .be
 remove-unused-expression-enum-known-outcome : (t : ℕ) → remove-unused-expression-lts.Need-enum-known-outcome (remove-unused-expression-calls t) (remove-unused-expression-at t) remove-unused-expression.Post
 remove-unused-expression-enum-known-outcome t c = search needs
 
-remove-unused-expression-part-of-requires : (t : ℕ) → remove-unused-expression-lts.Need-part-of-requires (remove-unused-expression-calls t) (remove-unused-expression-at t) remove-unused-expression.Post
-remove-unused-expression-part-of-requires t c κs = search needs
-
-remove-unused-expression-add-reduce-list : (t : ℕ) → remove-unused-expression-lts.Need-add-reduce-list (remove-unused-expression-calls t) (remove-unused-expression-at t) remove-unused-expression.Post
-remove-unused-expression-add-reduce-list t c = omega (arith, c .before .before .before .before .before .before .before .before .pre .1 .fits, some-size (c .before .before .before .before .before .before .before .before .pre .1 .input))
-
-remove-unused-expression-reduce-list-requires : (t : ℕ) → remove-unused-expression-lts.Need-reduce-list-requires (remove-unused-expression-calls t) (remove-unused-expression-at t) remove-unused-expression.Post
-remove-unused-expression-reduce-list-requires t c κs = (omega (arith, c .before .before .before .before .before .before .before .before .pre .0, c .before .before .before .before .before .before .before .before .pre .1 .input .small, some-depth (c .before .before .before .before .before .before .before .before .pre .1 .input), some-size (c .before .before .before .before .before .before .before .before .pre .1 .input)), inner-given (c .before .before .before .before .before .before .before .before .pre .1))
-
-remove-unused-expression-close-list-requires : (t : ℕ) → remove-unused-expression-lts.Need-close-list-requires (remove-unused-expression-calls t) (remove-unused-expression-at t) remove-unused-expression.Post
-remove-unused-expression-close-list-requires t c κs = walked-given _ (walked-as (partOf (c .before .before .before .before .before .before .before .outcome .given .0 .0)) (c .before .before .before .before .before .part-of .ensures) (c .before .before .before .reduce-list .ensures)) (c .before .before .before .before .before .before .before .before .before .before .before .before .pre .1) (c .before .before .before .reduce-list .kept .1 .1 .1 .1 .1 .1 .0)
+remove-unused-expression-reduce-rewritten-requires : (t : ℕ) → remove-unused-expression-lts.Need-reduce-rewritten-requires (remove-unused-expression-calls t) (remove-unused-expression-at t) remove-unused-expression.Post
+remove-unused-expression-reduce-rewritten-requires t c κs = (omega (arith, c .before .before .before .before .before .before .before .pre .0), record { given = c .before .before .before .before .before .before .before .pre .1; handles = as-outcome (Rewritten (c .before .before .outcome .given .0 .0)) (c .before .before .outcome .given .1) (c .before .before .before .before .handle .ensures) })
 
 remove-unused-expression-enum-told-4 : (t : ℕ) → remove-unused-expression-lts.Need-enum-told-4 (remove-unused-expression-calls t) (remove-unused-expression-at t) remove-unused-expression.Post
 remove-unused-expression-enum-told-4 t c = search needs
@@ -337,7 +378,7 @@ remove-unused-expression-same-length-3 : (t : ℕ) → remove-unused-expression-
 remove-unused-expression-same-length-3 t c = search needs
 
 remove-unused-expression-returns-4 : (t : ℕ) → remove-unused-expression-lts.Need-returns-4 (remove-unused-expression-calls t) (remove-unused-expression-at t) remove-unused-expression.Post
-remove-unused-expression-returns-4 t c = rewritten-done _ (walked-as (partOf (c .before .before .before .before .before .before .before .before .before .before .outcome .given .0 .0)) (c .before .before .before .before .before .before .before .before .part-of .ensures) (c .before .before .before .before .before .before .reduce-list .ensures)) (as-outcome (Rewritten (c .before .before .before .before .before .before .before .before .before .before .outcome .given .0 .0)) (c .before .before .before .before .before .before .before .before .before .before .outcome .given .1) (c .before .before .before .before .before .before .before .before .before .before .before .before .handle .ensures)) (c .before .before .close-list .ensures)
+remove-unused-expression-returns-4 t c = c .before .before .reduce-rewritten .ensures
 
 remove-unused-expression-same-length-4 : (t : ℕ) → remove-unused-expression-lts.Need-same-length-4 (remove-unused-expression-calls t) (remove-unused-expression-at t) remove-unused-expression.Post
 remove-unused-expression-same-length-4 t c = search needs
@@ -357,13 +398,13 @@ remove-unused-expression-same-length-6 t c = search needs
 remove-unused-expression-returns-7 : (t : ℕ) → remove-unused-expression-lts.Need-returns-7 (remove-unused-expression-calls t) (remove-unused-expression-at t) remove-unused-expression.Post
 remove-unused-expression-returns-7 t c = class-done (as-outcome Class (c .before .before .before .before .enum-told6 .given .1) (c .before .before .before .before .before .before .handle .ensures)) (c .before .before .remove-unused-class .ensures)
 
-pub +reduce-child+reduce-children+reduce-list+remove-unused-expression-spec :
+pub +reduce-child+reduce-children+reduce-rewritten+remove-unused-expression-spec :
     {M : Type 1} → statement M
-+reduce-child+reduce-children+reduce-list+remove-unused-expression-spec =
++reduce-child+reduce-children+reduce-rewritten+remove-unused-expression-spec =
     close
     μ-reduce-child
     μ-reduce-children
-    μ-reduce-list
+    μ-reduce-rewritten
     μ-remove-unused-expression
     (λ t. reduce-child-lts.spec (reduce-child-calls t)
     (reduce-child-at t)
@@ -395,26 +436,38 @@ pub +reduce-child+reduce-children+reduce-list+remove-unused-expression-spec :
     (reduce-children-loop-again t)
     (reduce-children-same-length t)
     (reduce-children-returns t))
-    (λ t. reduce-list-lts.spec
-    (reduce-children-below t, reduce-children.Post)
-    (reduce-list-at t)
-    reduce-list.Post
-    (reduce-list-enum-told t)
-    (reduce-list-reduce-children-requires t)
-    (reduce-list-enum-told-2 t)
-    (reduce-list-reduce-children-requires-2 t)
-    (reduce-list-enum-told-3 t)
-    (reduce-list-reduce-children-requires-3 t)
-    (reduce-list-enum-told-4 t)
-    (reduce-list-reduce-children-requires-4 t)
-    (reduce-list-same-length t)
-    (reduce-list-returns t)
-    (reduce-list-same-length-2 t)
-    (reduce-list-returns-2 t)
-    (reduce-list-same-length-3 t)
-    (reduce-list-returns-3 t)
-    (reduce-list-same-length-4 t)
-    (reduce-list-returns-4 t))
+    (λ t. reduce-rewritten-lts.spec (reduce-rewritten-calls t)
+    (reduce-rewritten-at t)
+    reduce-rewritten.Post
+    (reduce-rewritten-add-first t)
+    (reduce-rewritten-sub-rest t)
+    (reduce-rewritten-sub-below t)
+    (reduce-rewritten-add-to t)
+    (reduce-rewritten-enum-told t)
+    (reduce-rewritten-reduce-children-requires t)
+    (reduce-rewritten-remove-unused-sequence-expr-requires t)
+    (reduce-rewritten-enum-told-2 t)
+    (reduce-rewritten-reduce-children-requires-2 t)
+    (reduce-rewritten-remove-unused-array-expr-requires t)
+    (reduce-rewritten-enum-told-3 t)
+    (reduce-rewritten-reduce-children-requires-3 t)
+    (reduce-rewritten-close-template-requires t)
+    (reduce-rewritten-enum-told-4 t)
+    (reduce-rewritten-reduce-children-requires-4 t)
+    (reduce-rewritten-close-object-requires t)
+    (reduce-rewritten-enum-told-5 t)
+    (reduce-rewritten-reduce-children-requires-5 t)
+    (reduce-rewritten-join-kept-requires t)
+    (reduce-rewritten-same-length t)
+    (reduce-rewritten-returns t)
+    (reduce-rewritten-same-length-2 t)
+    (reduce-rewritten-returns-2 t)
+    (reduce-rewritten-same-length-3 t)
+    (reduce-rewritten-returns-3 t)
+    (reduce-rewritten-same-length-4 t)
+    (reduce-rewritten-returns-4 t)
+    (reduce-rewritten-same-length-5 t)
+    (reduce-rewritten-returns-5 t))
     λ t. remove-unused-expression-lts.spec (remove-unused-expression-calls t)
     (remove-unused-expression-at t)
     remove-unused-expression.Post
@@ -428,10 +481,7 @@ pub +reduce-child+reduce-children+reduce-list+remove-unused-expression-spec :
     (remove-unused-expression-enum-told-3 t)
     (remove-unused-expression-reduce-children-requires t)
     (remove-unused-expression-enum-known-outcome t)
-    (remove-unused-expression-part-of-requires t)
-    (remove-unused-expression-add-reduce-list t)
-    (remove-unused-expression-reduce-list-requires t)
-    (remove-unused-expression-close-list-requires t)
+    (remove-unused-expression-reduce-rewritten-requires t)
     (remove-unused-expression-enum-told-4 t)
     (remove-unused-expression-first-size-requires t)
     (remove-unused-expression-add-from t)
