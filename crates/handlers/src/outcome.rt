@@ -14,10 +14,10 @@ pub enum Rewrite {
 pub enum Outcome {
     Removable,
     Unchanged,
-    // what is left of its children takes its place
+    // what is left of its children takes its place (`unwrap_unary`)
     Unwrapped,
     Rewritten(Rewrite),
-    // of a pure call or new
+    // of a pure call or new (`fold_arguments_into_needed_expressions`)
     Arguments,
     // of a flagged addition
     Addition,

@@ -10,7 +10,7 @@ ghost use Rattle.reduce.specs.Settled.{GivenSettled, SettlesKept, GivenS
 // What a child is to its parent.
 pub enum Part {
     InOrder,
-    // of a pure call or new: a spread is wrapped in an array
+    // of a pure call or new: a spread is wrapped in an array (`fold_arguments_into_needed_expressions`)
     Argument,
     // of a template: a possible symbol waits
     Template,
