@@ -1,11 +1,12 @@
-/* The C functions of libuxt.a, which `rt staticlib uxt` writes to target/staticlib/.
+/* The C functions of libuxt.a, which `./uxt lib` writes to target/staticlib/.
  *
  * The archive is for x86-64 Linux; to link it needs memcpy and memset, which every C library has, and nothing
  * else. No function allocates, keeps state or ends the program, and each may be called from several threads at
  * once. 256 KB of stack are enough.
  *
  * What the caller owes, and nothing checks: a pointer is not null and its length counts what it points
- * to, also where the length is 0; memory that a function writes to does not overlap what it reads.
+ * to, also where the length is 0; memory that a function writes to does not overlap what it reads,
+ * and nothing else uses it during the call.
  *
  * What a function returns says whether it refused: see each.
  */

@@ -11,7 +11,7 @@ use Rattle.rules.specs.Lists.{concatMap, keepIf}
 use Rattle.rules.specs.Settings.{Settings}
 use Rattle.rules.specs.Facts.{possibleSymbol}
 use Rattle.rules.specs.Class.{hasStaticValue, nonemptyStaticBlock, staticValue}
-use Rattle.rules.specs.Effects.{evaluate, effects, effectsOf, itself, itselfIf, coercion, coercionNumber}
+use Rattle.rules.specs.Effects.{evaluate, effects, effectsOf, itselfIf, coercion}
 use Rattle.rules.specs.Proofs.Effects.{key-is, static-is}
 use Rattle.readings.specs.Node.{Tells}
 use Rattle.tree.specs.Kind as kind
@@ -27,14 +27,10 @@ module _ {s : List ℕ} {at size depth : ℕ} {st : Settings} {pos : ℕ} where
   pub coerced-given : {room : ℕ} → GivenTree s at size depth st Coerced pos room → GivenTree s at size depth st InOrder pos room
   coerced-given g = record { tree = g .tree; input = g .input; fits = omega (arith, g .fits, length-append (effects st (g .tree)) (coercion (g .tree))) }
 
-  pub coerced-entry : {room : ℕ} → GivenTree s at size depth st Coerced pos room → {old mid : List ℕ} {next : ℕ} → ListedTree s at size depth st InOrder old mid pos next
-      → {when : Bool} → Tells s at possibleSymbol when → GivenEntry s at when 1 next room
-  unfolding coercion
-  coerced-entry g {next = next} a {when} p =
-      let n = input-node (g .input) in
-      let e = p .by (g .tree) n in
-      given-entry when (coercionNumber (g .tree)) n (omega arith)
-      (rw e (omega (arith, a .by (g .tree) (g .input) .ends, g .fits, length-append (effects st (g .tree)) (coercion (g .tree)))))
+  pub coerced-entry : {room : ℕ} → GivenTree s at size depth st Coerced pos room → {old mid : List ℕ} {next : ℕ} → ListedTree s at size depth st InOrder old mid pos next → GivenEntry s at 1 next room
+  coerced-entry g a =
+      given-entry (input-node (g .input)) (omega arith)
+      (omega (arith, a .by (g .tree) (g .input) .ends, g .fits, length-append (effects st (g .tree)) (coercion (g .tree))))
 
   pub coerced-done : {old mid new : List ℕ} {next r : ℕ} → ListedTree s at size depth st InOrder old mid pos next → {when : Bool} → Tells s at possibleSymbol when
       → Wrote mid new next r (keepIf when (effectAt s at 1)) → ListedTree s at size depth st Coerced old new pos r
@@ -84,12 +80,11 @@ module _ {s : List ℕ} {at size depth : ℕ} (u has : ℕ) (eu : u ≡ headAt s
           value-wrote : (t : Tree) → Input s at size depth (one t) → Wrote old mid pos next (effectsOf st (staticValue t))
           value-wrote t i = wrote-as (a .by (key-split u has eu eh k ek t i .rest) (key-split u has eu eh k ek t i .rest-in)) (value-list t i (has-value t i))
 
-          pub block-given : {room : ℕ} → GivenTree s at size depth st Static pos room → GivenEntry s at w 0 next room
+          pub block-given : {room : ℕ} → GivenTree s at size depth st Static pos room → GivenEntry s at 0 next room
           block-given g =
               let t = g .tree in
-              let n = input-node (g .input) in
-              given-entry w (itself t) n (omega arith)
-              (rw (ew .by t n) (omega (arith, value-wrote t (g .input) .ends, g .fits, ap length (static-is st t), length-append (effectsOf st (staticValue t)) (itselfIf (nonemptyStaticBlock t) t))))
+              given-entry (input-node (g .input)) (omega arith)
+              (omega (arith, value-wrote t (g .input) .ends, g .fits, ap length (static-is st t), length-append (effectsOf st (staticValue t)) (itselfIf (nonemptyStaticBlock t) t)))
 
           pub static-done : {new : List ℕ} {r : ℕ} → Wrote mid new next r (keepIf w (effectAt s at 0)) → ListedTree s at size depth st Static old new pos r
           static-done x = record {
@@ -101,12 +96,6 @@ module _ {s : List ℕ} {at size depth : ℕ} (u has : ℕ) (eu : u ≡ headAt s
 module _ {s : List ℕ} {at size depth : ℕ} (st : Settings) (b : Bool) (eb : Tells s at hasStaticValue b) (v : b ≡ false) (w : Bool) (ew : Tells s at nonemptyStaticBlock w) where
   block-list : (t : Tree) → Input s at size depth (one t) → itselfIf (nonemptyStaticBlock t) t ≡ evaluate st t .static
   block-list t i = sym (static-is st t ∙ rw (sym (eb .by t (input-node i)) ∙ v))
-
-  pub only-block-given : {pos room : ℕ} → GivenTree s at size depth st Static pos room → GivenEntry s at w 0 pos room
-  only-block-given g =
-      let t = g .tree in
-      let n = input-node (g .input) in
-      given-entry w (itself t) n (omega arith) (rw (ew .by t n, block-list t (g .input)) (g .fits))
 
   pub only-block-done : {old new : List ℕ} {pos r : ℕ} → Wrote old new pos r (keepIf w (effectAt s at 0)) → ListedTree s at size depth st Static old new pos r
   only-block-done x = record {

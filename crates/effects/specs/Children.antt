@@ -56,7 +56,7 @@ module _ {s : List ℕ} {at size depth : ℕ} {st : Settings} {part : Part} {old
     pub child-given : (z : ℕ) → z ≡ subtreeAt s p → GivenTree s p z depth st part next (length old)
     child-given z ez = rw ez (go (w .given .forest) (w .given .input) (w .given .fits))
       where
-        go : (f : Forest) → Input s p (e - p) depth f → next + length (allListedAs st part f) ≤ length old → GivenTree s p (subtreeAt s p) depth st part next (length old)
+        go : (f : Forest) → Input s p (e - p) depth f → next + length (allListedAs st part f) < length old → GivenTree s p (subtreeAt s p) depth st part next (length old)
         go nil i r = absurd (omega (arith, i .holds .sized))
         go (node h cs rest) i r = record {
           tree = record { head = h; kids = cs };
@@ -71,7 +71,7 @@ module _ {s : List ℕ} {at size depth : ℕ} {st : Settings} {part : Part} {old
       rest-given : GivenChildren s (p + subtreeAt s p) (e - p - subtreeAt s p) depth st part next′ (length old)
       rest-given = go (w .given .forest) (w .given .input) (w .given .fits)
         where
-          go : (f : Forest) → Input s p (e - p) depth f → next + length (allListedAs st part f) ≤ length old → GivenChildren s (p + subtreeAt s p) (e - p - subtreeAt s p) depth st part next′ (length old)
+          go : (f : Forest) → Input s p (e - p) depth f → next + length (allListedAs st part f) < length old → GivenChildren s (p + subtreeAt s p) (e - p - subtreeAt s p) depth st part next′ (length old)
           go nil i r = absurd (omega (arith, i .holds .sized))
           go (node h cs rest) i r = record {
             forest = rest;

@@ -2,7 +2,7 @@
 use mathlib.Core.Path.{_≡_, refl, sym, ap, _∙_}
 use mathlib.Core.Bool.{Bool}
 use mathlib.Core.List.{List, _++_}
-use Prim.Native.Nat.{ℕ, _+_, _-_, _/_, _%_, _≤_}
+use Prim.Native.Nat.{ℕ, _+_, _-_, _/_, _%_, _<_, _≤_}
 use native.Mathlib.Omega.{arith}
 use lib.ListN.{length, length-append}
 use Rattle.tree.specs.Tree.{Head, Tree, one}
@@ -11,7 +11,7 @@ use Rattle.tree.specs.Children as children
 use Rattle.rules.specs.Lists.{concatMap, keepIf}
 use Rattle.rules.specs.Settings.{Settings}
 use Rattle.rules.specs.Class.{heritage, elements}
-use Rattle.rules.specs.Effects.{effects, effectsOf, itself, itselfIf, classIsEffect}
+use Rattle.rules.specs.Effects.{effects, effectsOf, itselfIf, classIsEffect}
 use Rattle.readings.specs.Node.{Tells}
 use Rattle.tree.specs.Kind as kind
 use Rattle.readings.specs.Split.{Split}
@@ -51,7 +51,7 @@ module _ {s : List ℕ} {at size depth : ℕ} (st : Settings) (ek : headAt s at 
     elements-list part t i = ap (concatMap (listedAs st part)) (class-split t i .rest-is)
 
     class-length : {pos room : ℕ} (g : GivenTree s at size depth st InOrder pos room)
-        → pos + (length (effectsOf st (heritage (g .tree))) + (length (itselfIf (classIsEffect (g .tree)) (g .tree)) + (length (concatMap (listedAs st Key) (elements (g .tree))) + length (concatMap (listedAs st Static) (elements (g .tree)))))) ≤ room
+        → pos + (length (effectsOf st (heritage (g .tree))) + (length (itselfIf (classIsEffect (g .tree)) (g .tree)) + (length (concatMap (listedAs st Key) (elements (g .tree))) + length (concatMap (listedAs st Static) (elements (g .tree)))))) < room
     class-length g =
         let t = g .tree in
         let keys = concatMap (listedAs st Key) (elements t) in
@@ -78,11 +78,8 @@ module _ {s : List ℕ} {at size depth : ℕ} (st : Settings) (ek : headAt s at 
       heritage-wrote : (t : Tree) → Input s at size depth (one t) → Wrote old mid pos next (effectsOf st (heritage t))
       heritage-wrote t i = wrote-as (a .by (class-split t i .first) (class-split t i .first-in)) (heritage-list t i)
 
-      pub class-itself : {room : ℕ} → GivenTree s at size depth st InOrder pos room → GivenEntry s at when 0 next room
-      class-itself g =
-          let t = g .tree in
-          let n = input-node (g .input) in
-          given-entry when (itself t) n (omega arith) (rw (p .by t n) (omega (arith, class-length g, heritage-wrote t (g .input) .ends)))
+      pub class-itself : {room : ℕ} → GivenTree s at size depth st InOrder pos room → GivenEntry s at 0 next room
+      class-itself g = given-entry (input-node (g .input)) (omega arith) (omega (arith, class-length g, heritage-wrote (g .tree) (g .input) .ends))
 
       module _ {mid′ : List ℕ} {next′ : ℕ} (w : Wrote mid mid′ next next′ (keepIf when (effectAt s at 0))) where
         itself-wrote : (t : Tree) → Input s at size depth (one t) → Wrote mid mid′ next next′ (itselfIf (classIsEffect t) t)

@@ -1,11 +1,11 @@
 -- One entry of the list.
-use mathlib.Core.Path.{_≡_, sym, ap, ap₂, _∙_}
-use mathlib.Core.Bool.{Bool, true, false, true≢false}
+use mathlib.Core.Path.{_≡_, refl, ap, ap₂, _∙_}
+use mathlib.Core.Bool.{Bool}
 use mathlib.Core.List.{List, [], _∷_}
-use Prim.Native.Nat.{ℕ, _+_, _*_, _<_, _≤_}
+use Prim.Native.Nat.{ℕ, zero, suc, _+_, _*_, _<_, _≤_}
 use native.Mathlib.Nat.{add-zero}
 use native.Mathlib.Omega.{arith}
-use lib.ListN.{length, set}
+use lib.ListN.{length, getD, set}
 use Rattle.tree.specs.Tree.{Head, Tree}
 use Rattle.tree.specs.Fields.{start, headAt}
 use Rattle.rules.specs.Lists.{keepIf}
@@ -18,10 +18,10 @@ use Rattle.effects.specs.Listing.{Wrote, wrote-as}
 abbrev pub effectAt : List ℕ → ℕ → ℕ → ℕ
 effectAt s at coercion = headAt s at .place * 512 + headAt s at .kind * 2 + coercion
 
-pub record GivenEntry (s : List ℕ) (at : ℕ) (when : Bool) (coercion pos room : ℕ) : Type 0 where
+pub record GivenEntry (s : List ℕ) (at : ℕ) (coercion pos room : ℕ) : Type 0 where
   pub inside : start (at + 1) ≤ length s
   pub small : coercion < 2
-  pub fits : when ≡ true → pos < room
+  pub fits : pos < room
 
 pub effect-itself : {s : List ℕ} {at : ℕ} {t : Tree} → Node s at t → effectAt s at 0 ≡ itself t
 unfolding itself
@@ -35,13 +35,18 @@ pub wrote-one : (s : List ℕ) (at : ℕ) (old : List ℕ) (pos : ℕ) (coercion
     → Wrote old (set old pos (place * 512 + k * 2 + coercion)) pos (pos + 1) (effectAt s at coercion ∷ [])
 wrote-one s at old pos coercion ep ek = record { ends = omega arith; entries = rw (ep, ek) }
 
-pub given-entry : {s : List ℕ} {at : ℕ} (when : Bool) {coercion pos room : ℕ} {t : Tree} (x : ℕ)
-    → Node s at t → coercion < 2 → pos + length (keepIf when x) ≤ room → GivenEntry s at when coercion pos room
-given-entry when {pos = pos} {room = room} x n c f = record { inside = omega (arith, n .inside); small = c; fits = λ e. go when e f }
-  where
-    go : (b : Bool) → b ≡ true → pos + length (keepIf b x) ≤ room → pos < room
-    go true e f = omega arith
-    go false e f = absurd (true≢false (sym e))
+-- An entry written with what it held.
+set-held : (l : List ℕ) (i : ℕ) → set l i (getD l i 0) ≡ l
+set-held [] i = refl
+set-held (x ∷ l) zero = refl
+set-held (x ∷ l) (suc i) = ap (λ (r : List ℕ). x ∷ r) (set-held l i)
+
+pub wrote-held : (old : List ℕ) (pos : ℕ) → Wrote old (set old pos (getD old pos 0)) pos pos []
+wrote-held old pos = record { ends = omega arith; entries = set-held old pos }
+
+pub given-entry : {s : List ℕ} {at : ℕ} {coercion pos room : ℕ} {t : Tree}
+    → Node s at t → coercion < 2 → pos < room → GivenEntry s at coercion pos room
+given-entry n c f = record { inside = omega (arith, n .inside); small = c; fits = f }
 
 module _ {s : List ℕ} {at : ℕ} {t : Tree} (n : Node s at t) {a b : List ℕ} {pos next : ℕ} (when : Bool) where
   pub wrote-itself : Wrote a b pos next (keepIf when (effectAt s at 0)) → Wrote a b pos next (itselfIf when t)

@@ -13,6 +13,7 @@ use Rattle.effects.specs.Plan.{Plans}
 use Rattle.effects.specs.declared.listing.Part.{Part}
 use Rattle.effects.specs.declared.plan.Plan.{Plan}
 use Rattle.effects.specs.Listing.{GivenTree, ListedTree}
+use Rattle.effects.specs.Entry.{GivenEntry, given-entry}
 use Rattle.readings.specs.Input.{input-node}
 
 -- A part and a plan as the match found them.
@@ -31,3 +32,6 @@ module _ {s : List ℕ} {at size depth : ℕ} {st : Settings} {part : Part} {pos
 
   pub given-inside : start (at + 1) ≤ length s
   given-inside = omega (arith, g .input .inside, some-size (g .input))
+
+  pub given-itself : GivenEntry s at 0 pos room
+  given-itself = given-entry (input-node (g .input)) (omega arith) (omega (arith, g .fits))

@@ -1,7 +1,7 @@
 -- What the functions of the listing are given and what they write.
 use mathlib.Core.Path.{_≡_, refl, ap, subst, _∙_}
 use mathlib.Core.List.{List, [], _∷_, _++_}
-use Prim.Native.Nat.{ℕ, suc, _+_, _≤_}
+use Prim.Native.Nat.{ℕ, suc, _+_, _<_}
 use native.Mathlib.Omega.{arith}
 use lib.ListN.{length, set, length-append}
 use lib.Seq.{sets}
@@ -28,11 +28,11 @@ pub record Wrote (old new : List ℕ) (pos next : ℕ) (l : List ℕ) : Type 0 w
   pub ends : next ≡ pos + length l
   pub entries : new ≡ sets old pos l
 
--- Trees stand there, and what is listed of them fits into `room` entries.
+-- Trees stand there, and what is listed of them ends before entry `room`: a list of effects is never as long as the entries lent for it.
 pub record GivenChildren (s : List ℕ) (at size depth : ℕ) (st : Settings) (part : Part) (pos room : ℕ) : Type 0 where
   pub forest : Forest
   pub input : Input s at size depth forest
-  pub fits : pos + length (allListedAs st part forest) ≤ room
+  pub fits : pos + length (allListedAs st part forest) < room
 
 pub record ListedChildren (s : List ℕ) (at size depth : ℕ) (st : Settings) (part : Part) (old new : List ℕ) (pos next : ℕ) : Type 0 where
   pub by : (f : Forest) → Input s at size depth f → Wrote old new pos next (allListedAs st part f)
@@ -41,7 +41,7 @@ pub record ListedChildren (s : List ℕ) (at size depth : ℕ) (st : Settings) (
 pub record GivenTree (s : List ℕ) (at size depth : ℕ) (st : Settings) (part : Part) (pos room : ℕ) : Type 0 where
   pub tree : Tree
   pub input : Input s at size depth (one tree)
-  pub fits : pos + length (listedAs st part tree) ≤ room
+  pub fits : pos + length (listedAs st part tree) < room
 
 pub record ListedTree (s : List ℕ) (at size depth : ℕ) (st : Settings) (part : Part) (old new : List ℕ) (pos next : ℕ) : Type 0 where
   pub by : (t : Tree) → Input s at size depth (one t) → Wrote old new pos next (listedAs st part t)

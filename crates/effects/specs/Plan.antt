@@ -1,12 +1,12 @@
 -- What a plan says of a node's effect list, and which plan a node has by its kind.
-use mathlib.Core.Path.{_≡_, refl, sym, ap, ap₂, subst, _∙_}
+use mathlib.Core.Path.{_≡_, refl, sym, ap, ap₂, _∙_}
 use mathlib.Core.Bool.{Bool, true, false, cond}
 use mathlib.Core.List.{List, [], _∷_, _++_, map, append-nil}
-use Prim.Native.Nat.{ℕ, _/_, _%_, _<_, _≤_}
+use Prim.Native.Nat.{ℕ, _/_, _%_, _≤_}
 use native.Mathlib.Omega.{arith}
 use lib.Dec.{eqb, leb}
 use lib.ListN.{drop}
-use borrow.Author.Tests.{le-leb, lt-leb, ne-eqb, leb-true}
+use borrow.Author.Tests.{le-leb, ne-eqb, leb-true}
 use Rattle.tree.specs.Tree.{Tree, trees, count}
 use Rattle.tree.specs.Children.{childCountOk, nodeOk}
 use Rattle.tree.specs.Stands.{node-parts}
@@ -15,21 +15,19 @@ use Rattle.rules.specs.Settings.{Settings, derived}
 use Rattle.rules.specs.Handler.{Handler, handler}
 use Rattle.rules.specs.Facts.{flagged, ofIdentifier, pureNew, pureCall}
 use Rattle.rules.specs.Class.{heritage, elements}
-use Rattle.rules.specs.Effects.{Evaluated, evaluate, effects, effectsOf, effectsBy, itself, itselfIf, coercion, additionEffect, childrenInOrder, classIsEffect}
+use Rattle.rules.specs.Effects.{Evaluated, evaluate, effects, effectsOf, effectsBy, itselfIf, coercion, additionEffect, childrenInOrder, classIsEffect}
 use Rattle.rules.specs.Proofs.Lists.{by-cond, take-map, drop-map, concatMap-map}
 use Rattle.rules.specs.Proofs.Unfold.{evaluated, inOrder-is}
 use Rattle.rules.specs.Proofs.Effects.{own, coerced-is}
 use Rattle.readings.specs.Node.{Node}
 use Rattle.tree.specs.Kind as kind
 use Rattle.effects.specs.declared.plan.Plan.{Plan}
-use Rattle.effects.specs.declared.plan.Plan.the-variants.{Nothing, Itself, Children, ChildrenThenItself, Coerced, Arguments, Addition, Class}
+use Rattle.effects.specs.declared.plan.Plan.the-variants.{Itself, Children, Coerced, Arguments, Addition, Class}
 
 -- The effect list of a node by its plan.
 abbrev pub planned : Plan → Settings → Tree → List ℕ
-planned Nothing s t = []
-planned Itself s t = itself t ∷ []
-planned Children s t = effectsOf s (trees (t .kids))
-planned ChildrenThenItself s t = effectsOf s (trees (t .kids)) ++ (itself t ∷ [])
+planned (Itself when) s t = itselfIf when t
+planned (Children when) s t = effectsOf s (trees (t .kids)) ++ itselfIf when t
 planned Coerced s t = concatMap (λ c. effects s c ++ coercion c) (trees (t .kids))
 planned Arguments s t = effectsOf s (drop 1 (trees (t .kids)))
 planned Addition s t = effectsOf s (trees (t .kids)) ++ ofTwo (additionEffect t) (itselfIf (flagged t) t) (trees (t .kids))
@@ -38,16 +36,10 @@ planned Class s t =
     ++ (itselfIf (classIsEffect t) t
     ++ (concatMap (λ e. evaluate s e .key) (elements t) ++ concatMap (λ e. evaluate s e .static) (elements t)))
 
-abbrev pub itselfOr : Bool → Plan
-itselfOr true = Itself
-itselfOr false = Nothing
-
 -- What a plan counts on of the node.
 abbrev pub HasChildren : Plan → Tree → Type 0
-HasChildren Nothing t = Unit {0}
-HasChildren Itself t = Unit {0}
-HasChildren Children t = Unit {0}
-HasChildren ChildrenThenItself t = Unit {0}
+HasChildren (Itself when) t = Unit {0}
+HasChildren (Children when) t = Unit {0}
 HasChildren Coerced t = Unit {0}
 HasChildren Arguments t = 1 ≤ count (t .kids)
 HasChildren Addition t = (t .head .kind ≡ kind.binary) × (t .head .sub ≡ 2)
@@ -63,10 +55,6 @@ pub record Plans (b : List ℕ) (i : ℕ) (s : Settings) (p : Plan) : Type 0 whe
 -- The same of a node of one kind.
 pub record PlansOf (k : ℕ) (b : List ℕ) (i : ℕ) (s : Settings) (p : Plan) : Type 0 where
   pub by : (t : Tree) → Node b i t → nodeOk (t .head) (t .kids) ≡ true → t .head .kind ≡ k → Planned s t p
-
--- A node whose own effect, if it is flagged, follows its children.
-pub record PlansAfter (b : List ℕ) (i : ℕ) (s : Settings) (p : Plan) : Type 0 where
-  pub by : (t : Tree) → Node b i t → effects s t ≡ effectsOf s (trees (t .kids)) ++ itselfIf (flagged t) t → Planned s t p
 
 two-evaluated : (s : Settings) (f : Tree → Tree → List ℕ) (other : List ℕ) (xs : List Tree)
     → ofTwo (λ l r. f (l .tree) (r .tree)) other (map (evaluated s) xs) ≡ ofTwo f other xs
@@ -98,20 +86,14 @@ module _ (s : Settings) (t : Tree) where
   abbrev ts : List Tree
   ts = trees (t .kids)
 
-  pub plan-flagged : flagged t ≡ true → effects s t ≡ effectsOf s (trees (t .kids)) ++ itselfIf (flagged t) t → Planned s t ChildrenThenItself
-  plan-flagged f e = record { is = e ∙ rw f; has = tt }
-
-  pub plan-clear : flagged t ≡ false → effects s t ≡ effectsOf s (trees (t .kids)) ++ itselfIf (flagged t) t → Planned s t Children
-  plan-clear f e = record { is = e ∙ rw f (append-nil (effectsOf s ts)); has = tt }
-
   -- Handlers whose effects are the children in order, and then themselves if flagged.
   after-children : (k : Handler) → handler (t .head) ≡ k
       → effectsBy k s t (map (evaluated s) ts) ≡ childrenInOrder (map (evaluated s) ts) ++ itselfIf (flagged t) t
-      → effects s t ≡ effectsOf s ts ++ itselfIf (flagged t) t
-  after-children k e f = own s t k e ∙ f ∙ ap (λ (l : List ℕ). l ++ itselfIf (flagged t) t) (inOrder-is s ts)
+      → {b : Bool} → b ≡ flagged t → Planned s t (Children b)
+  after-children k e f x = record { is = own s t k e ∙ f ∙ ap₂ (λ (l : List ℕ) (y : Bool). l ++ itselfIf y t) (inOrder-is s ts) (sym x); has = tt }
 
-  in-order : (k : Handler) → handler (t .head) ≡ k → effectsBy k s t (map (evaluated s) ts) ≡ childrenInOrder (map (evaluated s) ts) → Planned s t Children
-  in-order k e f = record { is = own s t k e ∙ f ∙ inOrder-is s ts; has = tt }
+  in-order : (k : Handler) → handler (t .head) ≡ k → effectsBy k s t (map (evaluated s) ts) ≡ childrenInOrder (map (evaluated s) ts) → Planned s t (Children false)
+  in-order k e f = record { is = own s t k e ∙ f ∙ inOrder-is s ts ∙ sym (append-nil (effectsOf s ts)); has = tt }
 
   arguments-is : childrenInOrder (drop 1 (map (evaluated s) ts)) ≡ effectsOf s (drop 1 ts)
   arguments-is = rw (drop-map (evaluated s)) (inOrder-is s (drop 1 ts))
@@ -123,42 +105,24 @@ module _ (s : Settings) (t : Tree) where
       (ap (λ (l : List ℕ). effectsOf s (heritage t) ++ (itselfIf (classIsEffect t) t ++ l))
       (ap₂ (_++_) (concatMap-map (λ e. e .result .key) (evaluated s) (elements t)) (concatMap-map (λ e. e .result .static) (evaluated s) (elements t))))
 
-  -- A node that is an effect by itself, if at all.
-  itself-or : (p : Plan) (b : Bool) → p ≡ itselfOr b → effects s t ≡ itselfIf b t → Planned s t p
-  itself-or p b q e = subst (λ (x : Plan). Planned s t x) (sym q) (go b e)
-    where
-      go : (b : Bool) → effects s t ≡ itselfIf b t → Planned s t (itselfOr b)
-      go true e = record { is = e; has = tt }
-      go false e = record { is = e; has = tt }
-
   module _ (k : ℕ) (ek : k ≡ t .head .kind) where
     -- Leaves.
-    leaf-handled : (k ≡ 0 → ⊥) → k ≤ 5 → handler (t .head) ≡ Handler.leaf
+    pub leaf-is : kind.isLeaf k ≡ true → effects s t ≡ itselfIf (flagged t) t
     unfolding handler
-    leaf-handled n l =
-        let a : leb 1 (t .head .kind) ≡ true = le-leb 1 (t .head .kind) (omega arith) in
-        let b : leb (t .head .kind) 5 ≡ true = le-leb (t .head .kind) 5 (omega arith) in
-        rw (a, b)
-
-    pub plan-leaf : (k ≡ 0 → ⊥) → k ≤ 5 → (p : Plan) (b : Bool) → p ≡ itselfOr b → b ≡ flagged t → Planned s t p
-    plan-leaf n l p b e f = itself-or p b (e) (own s t Handler.leaf (leaf-handled n l) ∙ rw (← f))
-
-    pub plan-zero : k ≡ 0 → Planned s t Children
-    unfolding handler
-    plan-zero e = in-order Handler.leftOut (rw (sym ek ∙ e)) refl
+    leaf-is l = own s t Handler.leaf (rw (← ek, l))
 
     -- This.
-    pub plan-this : k ≡ kind.this → (p : Plan) (b : Bool) → p ≡ itselfOr b → b ≡ derived s → Planned s t p
+    pub plan-this : k ≡ kind.this → {b : Bool} → b ≡ derived s → Planned s t (Itself b)
     unfolding handler
-    plan-this e p b q d = itself-or p b q (own s t Handler.this (rw (sym ek ∙ e)) ∙ rw (← d))
+    plan-this e d = record { is = own s t Handler.this (rw (sym ek ∙ e)) ∙ rw (← d); has = tt }
 
-    pub plan-elision : k ≡ kind.elision → Planned s t Nothing
+    pub plan-elision : k ≡ kind.elision → Planned s t (Itself false)
     unfolding handler
     plan-elision e = record { is = own s t Handler.elision (rw (sym ek ∙ e)); has = tt }
 
-    pub after-spread : k ≡ kind.spread → effects s t ≡ effectsOf s ts ++ itselfIf (flagged t) t
+    pub plan-spread : k ≡ kind.spread → {b : Bool} → b ≡ flagged t → Planned s t (Children b)
     unfolding handler
-    after-spread e = after-children Handler.spread (rw (sym ek ∙ e)) refl
+    plan-spread e = after-children Handler.spread (rw (sym ek ∙ e)) refl
 
     pub plan-template : k ≡ kind.template → Planned s t Coerced
     unfolding handler
@@ -170,25 +134,25 @@ module _ (s : Settings) (t : Tree) where
       unfolding handler
       unary-handled h x = rw (sym ek ∙ e, ← eu) x
 
-      pub plan-void : u ≡ 1 → Planned s t Children
+      pub plan-void : u ≡ 1 → Planned s t (Children false)
       unfolding handler
       plan-void x = in-order Handler.voidOrNot (unary-handled Handler.voidOrNot (rw x)) refl
 
-      pub plan-not : u ≡ 2 → Planned s t Children
+      pub plan-not : u ≡ 2 → Planned s t (Children false)
       unfolding handler
       plan-not x = in-order Handler.voidOrNot (unary-handled Handler.voidOrNot (rw x)) refl
 
-      pub plan-typeof-identifier : u ≡ 3 → ofIdentifier t ≡ true → Planned s t Nothing
+      pub plan-typeof-identifier : u ≡ 3 → ofIdentifier t ≡ true → Planned s t (Itself false)
       unfolding handler
       plan-typeof-identifier x o = record { is = own s t Handler.typeof (unary-handled Handler.typeof (rw x)) ∙ rw o; has = tt }
 
-      pub plan-typeof : u ≡ 3 → ofIdentifier t ≡ false → Planned s t Children
+      pub plan-typeof : u ≡ 3 → ofIdentifier t ≡ false → Planned s t (Children false)
       unfolding handler
       plan-typeof x o = in-order Handler.typeof (unary-handled Handler.typeof (rw x)) (rw o)
 
-      pub after-unary : (u ≡ 1 → ⊥) → (u ≡ 2 → ⊥) → (u ≡ 3 → ⊥) → effects s t ≡ effectsOf s ts ++ itselfIf (flagged t) t
+      pub plan-other-unary : (u ≡ 1 → ⊥) → (u ≡ 2 → ⊥) → (u ≡ 3 → ⊥) → {b : Bool} → b ≡ flagged t → Planned s t (Children b)
       unfolding handler
-      after-unary x y z = after-children Handler.otherUnary (unary-handled Handler.otherUnary (rw (ne-eqb u 1 x, ne-eqb u 2 y, ne-eqb u 3 z))) refl
+      plan-other-unary x y z = after-children Handler.otherUnary (unary-handled Handler.otherUnary (rw (ne-eqb u 1 x, ne-eqb u 2 y, ne-eqb u 3 z))) refl
 
     -- Binary, by its sub u.
     module _ (e : k ≡ kind.binary) (u : ℕ) (eu : u ≡ t .head .sub) where
@@ -196,7 +160,7 @@ module _ (s : Settings) (t : Tree) where
       unfolding handler
       binary-handled h x = rw (sym ek ∙ e, ← eu) x
 
-      pub plan-comparison : u ≡ 1 → Planned s t Children
+      pub plan-comparison : u ≡ 1 → Planned s t (Children false)
       unfolding handler
       plan-comparison x = in-order Handler.comparison (binary-handled Handler.comparison (rw x)) refl
 
@@ -206,9 +170,9 @@ module _ (s : Settings) (t : Tree) where
           let h = binary-handled Handler.addition (rw x) in
           record { is = own s t Handler.addition h ∙ ap₂ (_++_) (inOrder-is s ts) (two-evaluated s (additionEffect t) (itselfIf (flagged t) t) ts); has = (sym ek ∙ e, sym eu ∙ x) }
 
-      pub after-binary : (u ≡ 1 → ⊥) → (u ≡ 2 → ⊥) → effects s t ≡ effectsOf s ts ++ itselfIf (flagged t) t
+      pub plan-other-binary : (u ≡ 1 → ⊥) → (u ≡ 2 → ⊥) → {b : Bool} → b ≡ flagged t → Planned s t (Children b)
       unfolding handler
-      after-binary x y = after-children Handler.otherBinary (binary-handled Handler.otherBinary (rw (ne-eqb u 1 x, ne-eqb u 2 y))) refl
+      plan-other-binary x y = after-children Handler.otherBinary (binary-handled Handler.otherBinary (rw (ne-eqb u 1 x, ne-eqb u 2 y))) refl
 
     -- Calls and news.
     pub plan-call : nodeOk (t .head) (t .kids) ≡ true → k ≡ kind.call → pureCall s t ≡ true → Planned s t Arguments
@@ -218,9 +182,9 @@ module _ (s : Settings) (t : Tree) where
         let d : leb 1 (count (t .kids)) ≡ true = rw (sym ek ∙ e) at c in
         record { is = own s t Handler.call (rw (sym ek ∙ e)) ∙ rw p (arguments-is); has = leb-true 1 (count (t .kids)) d }
 
-    pub after-call : k ≡ kind.call → pureCall s t ≡ false → effects s t ≡ effectsOf s ts ++ itselfIf (flagged t) t
+    pub plan-impure-call : k ≡ kind.call → pureCall s t ≡ false → {b : Bool} → b ≡ flagged t → Planned s t (Children b)
     unfolding handler
-    after-call e p = after-children Handler.call (rw (sym ek ∙ e)) (rw p)
+    plan-impure-call e p = after-children Handler.call (rw (sym ek ∙ e)) (rw p)
 
     pub plan-new : nodeOk (t .head) (t .kids) ≡ true → k ≡ kind.new → pureNew s t ≡ true → Planned s t Arguments
     unfolding handler childCountOk
@@ -229,24 +193,23 @@ module _ (s : Settings) (t : Tree) where
         let d : leb 1 (count (t .kids)) ≡ true = rw (sym ek ∙ e) at c in
         record { is = own s t Handler.new (rw (sym ek ∙ e)) ∙ rw p (arguments-is); has = leb-true 1 (count (t .kids)) d }
 
-    pub after-new : k ≡ kind.new → pureNew s t ≡ false → effects s t ≡ effectsOf s ts ++ itselfIf (flagged t) t
+    pub plan-impure-new : k ≡ kind.new → pureNew s t ≡ false → {b : Bool} → b ≡ flagged t → Planned s t (Children b)
     unfolding handler
-    after-new e p = after-children Handler.new (rw (sym ek ∙ e)) (rw p)
+    plan-impure-new e p = after-children Handler.new (rw (sym ek ∙ e)) (rw p)
 
     pub plan-class : k ≡ kind.class → Planned s t Class
     unfolding handler
     plan-class e = record { is = own s t Handler.class (rw (sym ek ∙ e)) ∙ class-parts; has = sym ek ∙ e }
 
     -- Arrays, objects, properties, sequences and the rest.
-    pub plan-other : 5 < k → (k ≡ kind.this → ⊥) → (k ≡ kind.elision → ⊥) → (k ≡ kind.spread → ⊥) → (k ≡ kind.template → ⊥)
-        → (k ≡ kind.unary → ⊥) → (k ≡ kind.binary → ⊥) → (k ≡ kind.call → ⊥) → (k ≡ kind.new → ⊥) → (k ≡ kind.class → ⊥) → Planned s t Children
+    pub plan-other : kind.isLeaf k ≡ false → (k ≡ kind.this → ⊥) → (k ≡ kind.elision → ⊥) → (k ≡ kind.spread → ⊥) → (k ≡ kind.template → ⊥)
+        → (k ≡ kind.unary → ⊥) → (k ≡ kind.binary → ⊥) → (k ≡ kind.call → ⊥) → (k ≡ kind.new → ⊥) → (k ≡ kind.class → ⊥) → Planned s t (Children false)
     unfolding handler
     plan-other l a b c d e f g h i =
         let e′ : handler (t .head) ≡ others k =
         rw (
           ← ek,
-          le-leb 1 k (omega arith),
-          lt-leb k 5 l,
+          l,
           ne-eqb k kind.this a,
           ne-eqb k kind.elision b,
           ne-eqb k kind.spread c,
@@ -263,3 +226,10 @@ module _ (s : Settings) (t : Tree) where
 pub derived-is : (n : ℕ) → eqb (n / 4 % 2) 1 ≡ derived (record { byte = n })
 unfolding derived
 derived-is n = refl
+
+-- Whether a kind is a leaf's, as the code tests it.
+pub leaf-zero : {k n : ℕ} → k ≡ 0 → k ≡ n → false ≡ kind.isLeaf n
+leaf-zero z e = rw (sym e ∙ z)
+
+pub leaf-some : {k n : ℕ} → (k ≡ 0 → ⊥) → k ≡ n → leb k 5 ≡ kind.isLeaf n
+leaf-some {k} z e = rw (← e, le-leb 1 k (omega arith))

@@ -2,7 +2,7 @@
 use mathlib.Core.Path.{_≡_, sym, ap, _∙_}
 use mathlib.Core.Bool.{Bool, true, false, _||_}
 use mathlib.Core.List.{List, _++_}
-use Prim.Native.Nat.{ℕ, _+_, _-_, _≤_}
+use Prim.Native.Nat.{ℕ, _+_, _-_, _<_, _≤_}
 use native.Mathlib.Omega.{arith}
 use lib.Dec.{eqb}
 use borrow.Author.Tests.{eqb-true, eq-eqb}
@@ -15,7 +15,7 @@ use Rattle.rules.specs.Settings.{Settings}
 use Rattle.rules.specs.Handler.{isKind, isAddition}
 use Rattle.rules.specs.Facts.{flagged, possibleSymbol, stringFact, isStringRule, isString}
 use Rattle.rules.specs.Proofs.Addition.{isString-sides, effects-sides}
-use Rattle.rules.specs.Effects.{effects, itself, itselfIf, coercion, coercionNumber, additionEffect}
+use Rattle.rules.specs.Effects.{effects, itselfIf, coercion, additionEffect}
 use Rattle.readings.specs.Node.{Node, Tells}
 use Rattle.tree.specs.Kind as kind
 use Rattle.readings.specs.Split.{some-size}
@@ -74,7 +74,7 @@ module _ {s : List ℕ} (at size depth : ℕ) (st : Settings) (ek : headAt s at 
     abbrev S : SidesAt s at size depth (g .tree)
     S = sum-of (g .tree) (g .input)
 
-    sum-length : pos + (length (effects st (S .l)) + (length (effects st (S .r)) + length (additionEffect (g .tree) (S .l) (S .r)))) ≤ room
+    sum-length : pos + (length (effects st (S .l)) + (length (effects st (S .r)) + length (additionEffect (g .tree) (S .l) (S .r)))) < room
     sum-length =
         omega (
           arith,
@@ -127,9 +127,19 @@ module _ {s : List ℕ} (at size depth : ℕ) (st : Settings) (ek : headAt s at 
     sides-wrote t i w =
         wrote-as (wrote-both (listed-left .listed .by (sum-of t i .l) (sum-of t i .left-in)) (wrote-both (listed-right .by (sum-of t i .r) (sum-of t i .right-in)) w)) (sym (effects-sides st t (sum-of t i .l) (sum-of t i .r) (sum-of t i .sides)))
 
-    tail-fits : {room : ℕ} (g : GivenTree s at size depth st InOrder pos room) → next′ + length (additionEffect (g .tree) (S g .l) (S g .r)) ≤ room
+    tail-fits : {room : ℕ} (g : GivenTree s at size depth st InOrder pos room) → next′ < room
     tail-fits g =
         omega (arith, sum-length g, listed-left .listed .by (S g .l) (S g .left-in) .ends, listed-right .by (S g .r) (S g .right-in) .ends)
+
+    -- Each of the three that may be listed behind the sides.
+    pub right-coercion : {room : ℕ} → GivenTree s at size depth st InOrder pos room → GivenEntry s (at + 1 + z) 1 next′ room
+    right-coercion g = given-entry (right-node (g .tree) (g .input)) (omega arith) (tail-fits g)
+
+    pub left-coercion : {room : ℕ} → GivenTree s at size depth st InOrder pos room → GivenEntry s (at + 1) 1 next′ room
+    left-coercion g = given-entry (left-node (g .tree) (g .input)) (omega arith) (tail-fits g)
+
+    pub sum-itself : {room : ℕ} → GivenTree s at size depth st InOrder pos room → GivenEntry s at 0 next′ room
+    sum-itself g = given-entry (input-node (g .input)) (omega arith) (tail-fits g)
 
     module _ (when : Bool) where
       -- a string on the left
@@ -137,12 +147,6 @@ module _ {s : List ℕ} (at size depth : ℕ) (st : Settings) (ek : headAt s at 
         on-right : (t : Tree) (i : Input s at size depth (one t)) → additionEffect t (sum-of t i .l) (sum-of t i .r) ≡ coercion (sum-of t i .r)
         unfolding additionEffect
         on-right t i = rw (sym (left-string t i) ∙ v)
-
-        pub right-coercion : {room : ℕ} → GivenTree s at size depth st InOrder pos room → GivenEntry s (at + 1 + z) when 1 next′ room
-        unfolding coercion
-        right-coercion g =
-            let n = right-node (g .tree) (g .input) in
-            given-entry when (coercionNumber (S g .r)) n (omega arith) (rw (p .by (S g .r) n) (omega (arith, tail-fits g, ap length (on-right (g .tree) (g .input)))))
 
         pub right-done : {new : List ℕ} {r : ℕ} → Wrote mid′ new next′ r (keepIf when (effectAt s (at + 1 + z) 1)) → ListedSide s at size depth st old new pos r true
         right-done w = record {
@@ -157,12 +161,6 @@ module _ {s : List ℕ} (at size depth : ℕ) (st : Settings) (ek : headAt s at 
           unfolding additionEffect
           on-left t i = rw (sym (left-string t i) ∙ v, sym (q .by (sum-of t i .r) (right-node t i)) ∙ x)
 
-          pub left-coercion : {room : ℕ} → GivenTree s at size depth st InOrder pos room → GivenEntry s (at + 1) when 1 next′ room
-          unfolding coercion
-          left-coercion g =
-              let n = left-node (g .tree) (g .input) in
-              given-entry when (coercionNumber (S g .l)) n (omega arith) (rw (p .by (S g .l) n) (omega (arith, tail-fits g, ap length (on-left (g .tree) (g .input)))))
-
           pub left-done : {new : List ℕ} {r : ℕ} → Wrote mid′ new next′ r (keepIf when (effectAt s (at + 1) 1)) → ListedSide s at size depth st old new pos r true
           left-done w = record {
             listed = record { by = λ t i. sides-wrote t i (wrote-as (wrote-coercion (left-node t i) when (p .by (sum-of t i .l) (left-node t i)) w) (sym (on-left t i))) };
@@ -174,11 +172,6 @@ module _ {s : List ℕ} (at size depth : ℕ) (st : Settings) (ek : headAt s at 
           on-itself : (t : Tree) (i : Input s at size depth (one t)) → additionEffect t (sum-of t i .l) (sum-of t i .r) ≡ itselfIf (flagged t) t
           unfolding additionEffect
           on-itself t i = rw (sym (left-string t i) ∙ v, sym (q .by (sum-of t i .r) (right-node t i)) ∙ x)
-
-          pub sum-itself : {room : ℕ} → GivenTree s at size depth st InOrder pos room → GivenEntry s at when 0 next′ room
-          sum-itself g =
-              let n = input-node (g .input) in
-              given-entry when (itself (g .tree)) n (omega arith) (rw (p .by (g .tree) n) (omega (arith, tail-fits g, ap length (on-itself (g .tree) (g .input)))))
 
           pub sum-done : {new : List ℕ} {r : ℕ} → Wrote mid′ new next′ r (keepIf when (effectAt s at 0)) → ListedSide s at size depth st old new pos r false
           sum-done w = record {

@@ -8,6 +8,7 @@ ghost use lib.ListN.{length};
 ghost use Rattle.rules.specs.Effects.{effects};
 ghost use Rattle.readings.specs.Node.{settingsWith};
 ghost use Rattle.effects.specs.Listing.{listedAs, GivenChildren, ListedChildren, GivenTree, ListedTree};
+ghost use Rattle.effects.specs.Expression.{GivenNode};
 ghost use Rattle.effects.specs.Sum.{ListedSide, GivenSum};
 ghost use Rattle.effects.specs.Class.{GivenClass};
 
@@ -109,6 +110,7 @@ fn list_static(
     entry::list_if(src, at, block, 0, out, pos)
 }
 
+// An expression. A leaf is listed at once: it needs no plan.
 pub fn list_expr(
     src: &[u8],
     at: usize,
@@ -121,17 +123,35 @@ pub fn list_expr(
     requires { ⌜ GivenTree (now src) at size depth (settingsWith settings) Part.InOrder pos (length (now out)) ⌝ }
     ensures { λ r. ⌜ ListedTree (now (src .entry)) at size depth (settingsWith settings) Part.InOrder (now (out .entry)) (now (out .exit)) pos r ⌝ }
 {
+    if plan::is_leaf(src, at) {
+        let flagged = readings::flagged_at(src, at);
+        return entry::list_if(src, at, flagged, 0, out, pos);
+    }
+    list_node(src, at, size, depth, settings, out, pos)
+}
+
+// An expression that is no leaf, by its plan.
+fn list_node(
+    src: &[u8],
+    at: usize,
+    size: usize,
+    depth: usize,
+    settings: u8,
+    out: &mut [u64],
+    pos: usize,
+) -> usize
+    requires { ⌜ GivenNode (now src) at size depth (settingsWith settings) pos (length (now out)) ⌝ }
+    ensures { λ r. ⌜ ListedTree (now (src .entry)) at size depth (settingsWith settings) Part.InOrder (now (out .entry)) (now (out .exit)) pos r ⌝ }
+{
     let plan = plan::plan_of(src, at, settings);
     let first = at + 1;
     let rest = size - 1;
     let below = depth - 1;
     match plan {
-        Plan::Nothing => pos,
-        Plan::Itself => entry::list_if(src, at, true, 0, out, pos),
-        Plan::Children => list_children(src, first, rest, Part::InOrder, below, settings, out, pos),
-        Plan::ChildrenThenItself => {
+        Plan::Itself(when) => entry::list_if(src, at, when, 0, out, pos),
+        Plan::Children(when) => {
             let next = list_children(src, first, rest, Part::InOrder, below, settings, out, pos);
-            entry::list_if(src, at, true, 0, out, next)
+            entry::list_if(src, at, when, 0, out, next)
         }
         Plan::Coerced => list_children(src, first, rest, Part::Coerced, below, settings, out, pos),
         Plan::Arguments => {

@@ -1,18 +1,19 @@
 // What the effect list of a node is made of, by its kind, its facts and the settings.
 use fields::kind;
 ghost use mathlib.Core.Path.{_≡_};
+ghost use mathlib.Core.Bool.{false};
 ghost use Prim.Native.Nat.{_+_, _≤_};
 ghost use lib.ListN.{length};
-ghost use Rattle.tree.specs.Fields.{start};
+ghost use Rattle.tree.specs.Fields.{start, headAt};
 ghost use Rattle.readings.specs.Node.{SomeNode, settingsWith};
-ghost use Rattle.effects.specs.Plan.{Plans, PlansAfter, PlansOf, itselfOr};
-ghost use Rattle.tree.specs.Kind.{unary, binary};
+ghost use Rattle.effects.specs.Plan.{Plans, PlansOf};
+ghost use Rattle.tree.specs.Kind.{unary, binary, isLeaf};
 
 pub enum Plan {
-    Nothing,
-    Itself,
-    Children,
-    ChildrenThenItself,
+    // itself, where the value says so, and no child
+    Itself(bool),
+    // the children, and then itself where the value says so
+    Children(bool),
     // each child followed by its coercion
     Coerced,
     // the children but the first
@@ -21,44 +22,24 @@ pub enum Plan {
     Class,
 }
 
-fn itself_if(when: bool) -> Plan
-    ensures { λ r. ⌜ r ≡ itselfOr when ⌝ }
-{
-    if when {
-        return Plan::Itself;
-    }
-    Plan::Nothing
-}
-
-// A node whose own effect follows its children.
-fn after_children(src: &[u8], at: usize, settings: u8) -> Plan
-    requires { ⌜ start (at + 1) ≤ length (now src) ⌝ }
-    ensures { λ r. ⌜ PlansAfter (now (src .entry)) at (settingsWith settings) r ⌝ }
-{
-    if readings::flagged_at(src, at) {
-        return Plan::ChildrenThenItself;
-    }
-    Plan::Children
-}
-
 fn plan_unary(src: &[u8], at: usize, settings: u8) -> Plan
     requires { ⌜ SomeNode (now src) at ⌝ }
     ensures { λ r. ⌜ PlansOf unary (now (src .entry)) at (settingsWith settings) r ⌝ }
 {
     let sub = fields::sub_at(src, at);
     if sub == 1 {
-        return Plan::Children;
+        return Plan::Children(false);
     }
     if sub == 2 {
-        return Plan::Children;
+        return Plan::Children(false);
     }
     if sub == 3 {
         if readings::of_identifier(src, at) {
-            return Plan::Nothing;
+            return Plan::Itself(false);
         }
-        return Plan::Children;
+        return Plan::Children(false);
     }
-    after_children(src, at, settings)
+    Plan::Children(readings::flagged_at(src, at))
 }
 
 fn plan_binary(src: &[u8], at: usize, settings: u8) -> Plan
@@ -67,29 +48,35 @@ fn plan_binary(src: &[u8], at: usize, settings: u8) -> Plan
 {
     let sub = fields::sub_at(src, at);
     if sub == 1 {
-        return Plan::Children;
+        return Plan::Children(false);
     }
     if sub == 2 {
         return Plan::Addition;
     }
-    after_children(src, at, settings)
+    Plan::Children(readings::flagged_at(src, at))
 }
 
-pub fn plan_of(src: &[u8], at: usize, settings: u8) -> Plan
-    requires { ⌜ SomeNode (now src) at ⌝ }
-    ensures { λ r. ⌜ Plans (now (src .entry)) at (settingsWith settings) r ⌝ }
+// Whether record at is a leaf.
+pub fn is_leaf(src: &[u8], at: usize) -> bool
+    requires { ⌜ start (at + 1) ≤ length (now src) ⌝ }
+    ensures { λ r. ⌜ r ≡ isLeaf (headAt (now (src .entry)) at .kind) ⌝ }
 {
     let kind = fields::kind_at(src, at);
-    if kind <= kind::OTHER_LEAF {
-        if kind == 0 {
-            return Plan::Children;
-        }
-        return itself_if(readings::flagged_at(src, at));
+    if kind == 0 {
+        return false;
     }
-    match kind {
-        kind::THIS => itself_if(settings / 4 % 2 == 1),
-        kind::ELISION => Plan::Nothing,
-        kind::SPREAD => after_children(src, at, settings),
+    kind <= kind::OTHER_LEAF
+}
+
+// The plan of a node that is no leaf.
+pub fn plan_of(src: &[u8], at: usize, settings: u8) -> Plan
+    requires { ⌜ SomeNode (now src) at × (isLeaf (headAt (now src) at .kind) ≡ false) ⌝ }
+    ensures { λ r. ⌜ Plans (now (src .entry)) at (settingsWith settings) r ⌝ }
+{
+    match fields::kind_at(src, at) {
+        kind::THIS => Plan::Itself(settings / 4 % 2 == 1),
+        kind::ELISION => Plan::Itself(false),
+        kind::SPREAD => Plan::Children(readings::flagged_at(src, at)),
         kind::TEMPLATE => Plan::Coerced,
         kind::UNARY => plan_unary(src, at, settings),
         kind::BINARY => plan_binary(src, at, settings),
@@ -97,15 +84,15 @@ pub fn plan_of(src: &[u8], at: usize, settings: u8) -> Plan
             if readings::pure_call(src, at, settings) {
                 return Plan::Arguments;
             }
-            after_children(src, at, settings)
+            Plan::Children(readings::flagged_at(src, at))
         }
         kind::NEW => {
             if readings::pure_new(src, at, settings) {
                 return Plan::Arguments;
             }
-            after_children(src, at, settings)
+            Plan::Children(readings::flagged_at(src, at))
         }
         kind::CLASS => Plan::Class,
-        _ => Plan::Children,
+        _ => Plan::Children(false),
     }
 }

@@ -11,58 +11,51 @@ ghost use Rattle.tree.specs.Refusal.{childrenEnd, shapeAt, shapeOk};
 ghost use Rattle.file.specs.Bounds.{leastChildren, mostChildren, countWithin};
 ghost use Rattle.file.specs.Parents.{takesSpread};
 
+// A bit for each kind: of each that is an expression. A number in place of a table or a test by kind, which would often be mispredicted.
+const EXPRESSIONS: usize = 0b1111_1111_1111_0111_1111_0100_1111_1111;
+
+// Two bits for each kind: the least number of children, and the most, 3 if there may be any number.
+const LEAST_CHILDREN: usize = 0b01_01_10_01_00_00_00_00_01_00_00_00_00_00_00_00_00_00;
+
+const MOST_CHILDREN: usize =
+    0b11_11_11_11_11_11_11_11_11_11_11_11_11_11_11_11_10_01_11_11_11_11_01_00_11_00_00_00_00_00_00_11;
+
 fn is_expression(kind: usize) -> bool
     ensures { λ r. ⌜ r ≡ isExpression kind ⌝ }
 {
-    if kind == kind::ELISION {
-        return false;
+    if 31 < kind {
+        return true;
     }
-    if kind == kind::SPREAD {
-        return false;
-    }
-    if kind == kind::PROPERTY {
-        return false;
-    }
-    kind != kind::ELEMENT
+    (EXPRESSIONS >> kind) % 2 == 1
 }
 
 fn least_children(kind: usize) -> usize
     ensures { λ r. ⌜ r ≡ leastChildren kind ⌝ }
 {
-    match kind {
-        kind::SPREAD => 1,
-        kind::UNARY => 1,
-        kind::BINARY => 2,
-        kind::CALL => 1,
-        kind::NEW => 1,
-        _ => 0,
+    if 31 < kind {
+        return 0;
     }
+    (LEAST_CHILDREN >> (2 * kind)) % 4
 }
 
 fn most_children(kind: usize) -> usize
     ensures { λ r. ⌜ r ≡ mostChildren kind ⌝ }
 {
-    match kind {
-        kind::LITERAL => 0,
-        kind::IDENTIFIER => 0,
-        kind::FUNCTION => 0,
-        kind::ARROW => 0,
-        kind::OTHER_LEAF => 0,
-        kind::THIS => 0,
-        kind::ELISION => 0,
-        kind::SPREAD => 1,
-        kind::UNARY => 1,
-        kind::BINARY => 2,
-        _ => 65535,
+    if 31 < kind {
+        return 3;
     }
+    (MOST_CHILDREN >> (2 * kind)) % 4
 }
 
-// Two bounds by kind rather than a test by kind, which would often be mispredicted.
 fn count_within(kind: usize, n: usize) -> bool
     ensures { λ r. ⌜ r ≡ countWithin kind n ⌝ }
 {
-    if most_children(kind) < n {
-        return false;
+    let most = most_children(kind);
+    if most < n {
+        if most != 3 {
+            return false;
+        }
+        return least_children(kind) <= n;
     }
     least_children(kind) <= n
 }

@@ -120,26 +120,27 @@ fn element_sub_ok(sub: usize) -> bool
     true
 }
 
+// A bit for each kind, and three bits for each: the least sub, and the most, but for class elements.
+const LEAST_SUB: usize = 0b1100_0000_0000_0000;
+
+const MOST_SUB: usize = 0o3_003_400_100_000_000_000;
+
 fn least_sub(kind: usize) -> usize
     ensures { λ r. ⌜ r ≡ leastSub kind ⌝ }
 {
-    match kind {
-        kind::UNARY => 1,
-        kind::BINARY => 1,
-        _ => 0,
+    if 20 < kind {
+        return 0;
     }
+    (LEAST_SUB >> kind) % 2
 }
 
 fn most_sub(kind: usize) -> usize
     ensures { λ r. ⌜ r ≡ mostSub kind ⌝ }
 {
-    match kind {
-        kind::PROPERTY => 1,
-        kind::UNARY => 4,
-        kind::BINARY => 3,
-        kind::CLASS => 3,
-        _ => 0,
+    if 20 < kind {
+        return 0;
     }
+    (MOST_SUB >> (3 * kind)) % 8
 }
 
 // Two bounds by kind rather than a test by kind, which would often be mispredicted.

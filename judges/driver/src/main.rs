@@ -1,5 +1,6 @@
 //! The driver's commands; `driver help` lists them.
 
+use driver::bench;
 use driver::fixed;
 use driver::hits::HITS;
 use driver::judge::{Judge, Tally};
@@ -28,7 +29,8 @@ driver listings                           the effects of the files on standard i
 driver reductions                         what is left of them, as the program reductions prints it
 driver reduced                            a line for each of the files on standard input: the
                                           port's number, length and hash of what Reduce writes
-driver speed [--seed S] [--oracle PATH]   nanoseconds a record";
+driver speed [--seed S] [--oracle PATH]   nanoseconds a record
+driver bench [--seed S] [--oracle PATH]   the same as one table, with ratios";
 
 const BRIEF_TREES: u64 = 200_000;
 
@@ -53,6 +55,7 @@ fn main() -> ExitCode {
         "reduced" => Ok(reduced::text(&Port, &input()?)),
         "reductions" => Ok(reductions::text(&Port, &input()?)),
         "speed" => measure(&arguments),
+        "bench" => benchmark(&arguments),
         _ => Err(HELP.to_string()),
     });
     match result {
@@ -196,6 +199,15 @@ fn measure(arguments: &Arguments) -> Result<String, String> {
         oracle.stop().map_err(|error| error.to_string())?;
     }
     Ok("judges: measured\n".to_string())
+}
+
+fn benchmark(arguments: &Arguments) -> Result<String, String> {
+    let mut oracle = start_oracle(arguments)?;
+    let table = bench::table(SIDES, oracle.as_mut(), arguments.seed).map_err(|e| e.to_string())?;
+    if let Some(oracle) = oracle {
+        oracle.stop().map_err(|error| error.to_string())?;
+    }
+    Ok(format!("nanoseconds a record, and by those of the port\n{table}"))
 }
 
 fn measure_reduce(records: usize, seed: u64, oracle: Option<&mut Oracle>) -> io::Result<()> {

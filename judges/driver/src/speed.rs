@@ -77,6 +77,23 @@ pub fn measure(sides: &[&dyn Side], files: &[Vec<u8>]) -> Vec<Measured> {
     both.map(|((check, reduce), list)| Measured { check, reduce, list }).collect()
 }
 
+/// What it takes to copy the files, and nothing else.
+pub fn copy(files: &[Vec<u8>]) -> f64 {
+    let mut out = vec![0; files[0].len()];
+    let mut times = vec![Times::default()];
+    for _ in 0..ROUNDS {
+        for (at, group) in groups(files).enumerate() {
+            touch(group);
+            let start = Instant::now();
+            for file in group {
+                black_box(&mut out).copy_from_slice(file);
+            }
+            times[0].push(at, start.elapsed().as_nanos() as f64);
+        }
+    }
+    times.remove(0).a_record(files).unwrap_or_default()
+}
+
 /// What Reduce takes of each side and of the oracle, if there is one, in turns.
 pub fn reduce(
     sides: &[&dyn Side],

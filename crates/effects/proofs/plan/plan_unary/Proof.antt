@@ -1,6 +1,6 @@
 use mathlib.Core.Path.{refl, sym, ap, _∙_}
 use Rattle.tree.specs.Tree.{Head}
-use Rattle.effects.specs.Plan.{plan-void, plan-not, plan-typeof-identifier, plan-typeof, after-unary}
+use Rattle.effects.specs.Plan.{plan-void, plan-not, plan-typeof-identifier, plan-typeof, plan-other-unary}
 use borrow.Author.Needs.{needs}
 use Rattle.effects.proofs.plan.plan_unary.Statement.{statement}
 use Rattle.effects.proofs.plan.plan_unary.Tie as tie
@@ -23,11 +23,11 @@ returns-3 c = record { by = λ t n w e. plan-typeof-identifier _ t _ (sym e) ref
 returns-4 : tie.Need-returns-4
 returns-4 c = record { by = λ t n w e. plan-typeof _ t _ (sym e) refl _ (c .before .before .before .before .before .sub-at .ensures .0 ∙ ap (λ (h : Head). h .sub) (n .stands .0)) (c .before .before .if3 .taken) (sym (c .before .of-identifier .ensures .by t n) ∙ c .if4 .left) }
 
-after-children-requires : tie.Need-after-children-requires
-after-children-requires c κs = search needs
+flagged-at-requires : tie.Need-flagged-at-requires
+flagged-at-requires c κs = search needs
 
 returns-5 : tie.Need-returns-5
-returns-5 c = record { by = λ t n w e. c .after-children .ensures .by t n (after-unary _ t _ (sym e) refl _ (c .before .before .before .before .sub-at .ensures .0 ∙ ap (λ (h : Head). h .sub) (n .stands .0)) (c .before .before .before .if1 .left) (c .before .before .if2 .left) (c .before .if3 .left)) }
+returns-5 c = record { by = λ t n w e. plan-other-unary _ t _ (sym e) refl _ (c .before .before .before .before .sub-at .ensures .0 ∙ ap (λ (h : Head). h .sub) (n .stands .0)) (c .before .before .before .if1 .left) (c .before .before .if2 .left) (c .before .if3 .left) (c .flagged-at .ensures .by t n) }
 
 pub plan-unary-spec : {M : Type 1} → statement M
 plan-unary-spec =
@@ -39,5 +39,5 @@ plan-unary-spec =
     of-identifier-requires
     returns-3
     returns-4
-    after-children-requires
+    flagged-at-requires
     returns-5)

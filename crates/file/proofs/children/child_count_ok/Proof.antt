@@ -36,7 +36,7 @@ unfolding childCountOk
 returns-3 c = rw (sym (c .before .before .before .kind-at .ensures .0) ∙ c .match .keys3, ← c .before .children-at .ensures .0, ← c .before .before .sub-at .ensures .0)
 
 returns-4 : tie.Need-returns-4
-returns-4 c = rw (← c .before .before .children-at .ensures .0) (c .count-within .ensures ∙ sym (count-other _ _ _ (c .before .before .before .before .kind-at .ensures .0) (c .before .before .children-at .ensures .1) (c .before .match .rest .0 .0 .1) (c .before .match .rest .0 .1) (c .before .match .rest .1)))
+returns-4 c = rw (← c .before .before .children-at .ensures .0) (c .count-within .ensures ∙ sym (count-other _ _ _ (c .before .before .before .before .kind-at .ensures .0) (c .before .match .rest .0 .0 .1) (c .before .match .rest .0 .1) (c .before .match .rest .1)))
 
 pub child-count-ok-spec : {M : Type 1} → statement M
 child-count-ok-spec =

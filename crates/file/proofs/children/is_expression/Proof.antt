@@ -1,18 +1,18 @@
-use borrow.Author.Tests.{ne-eqb}
+use mathlib.Core.Path.{sym}
+use native.Mathlib.Omega.{arith}
+use Rattle.file.specs.Bounds.{expression-below, expression-beyond}
+use borrow.Author.Needs.{needs}
 use Rattle.file.proofs.children.is_expression.Statement.{statement}
 use Rattle.file.proofs.children.is_expression.Tie as tie
 
 returns : tie.Need-returns
-returns c = rw (c .if1 .taken)
+returns c = sym (expression-beyond (c .before .args .kind) (omega (arith, c .if1 .taken)))
+
+shr-result : tie.Need-shr-result
+shr-result c = search needs
 
 returns-2 : tie.Need-returns-2
-returns-2 c = rw (c .if2 .taken)
-
-returns-3 : tie.Need-returns-3
-returns-3 c = rw (c .if3 .taken)
-
-returns-4 : tie.Need-returns-4
-returns-4 c = rw (ne-eqb _ 8 (c .before .before .if1 .left), ne-eqb _ 9 (c .before .if2 .left), ne-eqb _ 11 (c .if3 .left))
+returns-2 c = expression-below (c .before .args .kind) (omega (arith, c .if1 .left))
 
 pub is-expression-spec : {M : Type 1} → statement M
-is-expression-spec = tie.close (tie.spec returns returns-2 returns-3 returns-4)
+is-expression-spec = tie.close (tie.spec returns shr-result returns-2)

@@ -1,40 +1,21 @@
 use mathlib.Core.Path.{sym}
-use Rattle.file.specs.Bounds.{most-other, no-leaf}
+use native.Mathlib.Omega.{arith}
+use Rattle.file.specs.Bounds.{most-children-below, most-children-beyond}
+use borrow.Author.Needs.{needs}
 use Rattle.file.proofs.children.most_children.Statement.{statement}
 use Rattle.file.proofs.children.most_children.Tie as tie
 
 returns : tie.Need-returns
-returns c = rw (c .match .keys1)
+returns c = sym (most-children-beyond (c .before .args .kind) (omega (arith, c .if1 .taken)))
+
+mul-result : tie.Need-mul-result
+mul-result c = search needs
+
+shr-result : tie.Need-shr-result
+shr-result c = search needs
 
 returns-2 : tie.Need-returns-2
-returns-2 c = rw (c .match .keys2)
-
-returns-3 : tie.Need-returns-3
-returns-3 c = rw (c .match .keys3)
-
-returns-4 : tie.Need-returns-4
-returns-4 c = rw (c .match .keys4)
-
-returns-5 : tie.Need-returns-5
-returns-5 c = rw (c .match .keys5)
-
-returns-6 : tie.Need-returns-6
-returns-6 c = rw (c .match .keys6)
-
-returns-7 : tie.Need-returns-7
-returns-7 c = rw (c .match .keys7)
-
-returns-8 : tie.Need-returns-8
-returns-8 c = rw (c .match .keys8)
-
-returns-9 : tie.Need-returns-9
-returns-9 c = rw (c .match .keys9)
-
-returns-10 : tie.Need-returns-10
-returns-10 c = rw (c .match .keys10)
-
-returns-11 : tie.Need-returns-11
-returns-11 c = sym (most-other _ (no-leaf _ (c .match .rest .0 .0 .0 .0 .0 .0 .0 .0 .0 .1) (c .match .rest .0 .0 .0 .0 .0 .0 .0 .0 .1) (c .match .rest .0 .0 .0 .0 .0 .0 .0 .1) (c .match .rest .0 .0 .0 .0 .0 .0 .1) (c .match .rest .0 .0 .0 .0 .0 .1)) (c .match .rest .0 .0 .0 .0 .1) (c .match .rest .0 .0 .0 .1) (c .match .rest .0 .0 .1) (c .match .rest .0 .1) (c .match .rest .1))
+returns-2 c = most-children-below (c .before .args .kind) (omega (arith, c .if1 .left))
 
 pub most-children-spec : {M : Type 1} → statement M
-most-children-spec = tie.close (tie.spec returns returns-2 returns-3 returns-4 returns-5 returns-6 returns-7 returns-8 returns-9 returns-10 returns-11)
+most-children-spec = tie.close (tie.spec returns mul-result shr-result returns-2)

@@ -1,15 +1,18 @@
-use borrow.Author.Tests.{ne-eqb}
+use mathlib.Core.Path.{sym}
+use native.Mathlib.Omega.{arith}
+use Rattle.file.specs.Bounds.{least-sub-below, least-sub-beyond}
+use borrow.Author.Needs.{needs}
 use Rattle.file.proofs.record.least_sub.Statement.{statement}
 use Rattle.file.proofs.record.least_sub.Tie as tie
 
 returns : tie.Need-returns
-returns c = rw (c .match .keys1)
+returns c = sym (least-sub-beyond (c .before .args .kind) (omega (arith, c .if1 .taken)))
+
+shr-result : tie.Need-shr-result
+shr-result c = search needs
 
 returns-2 : tie.Need-returns-2
-returns-2 c = rw (c .match .keys2)
-
-returns-3 : tie.Need-returns-3
-returns-3 c = rw (ne-eqb _ 14 (c .match .rest .0 .1), ne-eqb _ 15 (c .match .rest .1))
+returns-2 c = least-sub-below (c .before .args .kind) (omega (arith, c .if1 .left))
 
 pub least-sub-spec : {M : Type 1} → statement M
-least-sub-spec = tie.close (tie.spec returns returns-2 returns-3)
+least-sub-spec = tie.close (tie.spec returns shr-result returns-2)

@@ -1,21 +1,21 @@
-use borrow.Author.Tests.{ne-eqb}
+use mathlib.Core.Path.{sym}
+use native.Mathlib.Omega.{arith}
+use Rattle.file.specs.Bounds.{most-sub-below, most-sub-beyond}
+use borrow.Author.Needs.{needs}
 use Rattle.file.proofs.record.most_sub.Statement.{statement}
 use Rattle.file.proofs.record.most_sub.Tie as tie
 
 returns : tie.Need-returns
-returns c = rw (c .match .keys1)
+returns c = sym (most-sub-beyond (c .before .args .kind) (omega (arith, c .if1 .taken)))
+
+mul-result : tie.Need-mul-result
+mul-result c = search needs
+
+shr-result : tie.Need-shr-result
+shr-result c = search needs
 
 returns-2 : tie.Need-returns-2
-returns-2 c = rw (c .match .keys2)
-
-returns-3 : tie.Need-returns-3
-returns-3 c = rw (c .match .keys3)
-
-returns-4 : tie.Need-returns-4
-returns-4 c = rw (c .match .keys4)
-
-returns-5 : tie.Need-returns-5
-returns-5 c = rw (ne-eqb _ 11 (c .match .rest .0 .0 .0 .1), ne-eqb _ 14 (c .match .rest .0 .0 .1), ne-eqb _ 15 (c .match .rest .0 .1), ne-eqb _ 18 (c .match .rest .1))
+returns-2 c = most-sub-below (c .before .args .kind) (omega (arith, c .if1 .left))
 
 pub most-sub-spec : {M : Type 1} → statement M
-most-sub-spec = tie.close (tie.spec returns returns-2 returns-3 returns-4 returns-5)
+most-sub-spec = tie.close (tie.spec returns mul-result shr-result returns-2)

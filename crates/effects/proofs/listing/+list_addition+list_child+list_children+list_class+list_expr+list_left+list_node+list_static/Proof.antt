@@ -1,44 +1,46 @@
-use mathlib.Core.Path.{refl}
+use borrow.Author.Needs.{needs}
+use mathlib.Core.Path.{refl, sym, _∙_}
 use Prim.Native.Nat.{ℕ, _+_, _*_, _-_, _<_}
 use native.Mathlib.Omega.{arith}
-use borrow.Author.Needs.{needs}
 use Rattle.effects.specs.declared.listing.Part.the-variants.{InOrder, Coerced, Key, Static}
-use Rattle.effects.specs.declared.plan.Plan.the-variants.{Nothing, Itself, Children, ChildrenThenItself, Arguments, Addition, Class}
+use Rattle.effects.specs.declared.plan.Plan.the-variants.{Itself, Children, Arguments, Addition, Class}
 use Rattle.effects.specs.declared.plan.Plan.the-variants as plan
 use Rattle.readings.specs.Node.{settingsWith}
 use Rattle.readings.specs.Split.{some-depth, some-size}
-use Rattle.effects.specs.Given.{as-part, for-part, as-plan, given-node, given-inside}
+use Rattle.effects.specs.Given.{as-part, for-part, as-plan, given-node, given-inside, given-itself}
 use Rattle.effects.specs.Children.{Walking, walk-start, walk-done, walk-subtree, child-some, child-within, child-given, walk-on}
-use Rattle.effects.specs.Child.{coerced-given, coerced-entry, coerced-done, element-first, key-within, key-given, key-done, value-given, block-given, static-done, only-block-given, only-block-done}
-use Rattle.effects.specs.Expression.{nothing-done, itself-given, itself-done, children-given, children-done, then-given, then-entry, then-done, template-given, template-done, callee-first, callee-within, arguments-given, arguments-done}
+use Rattle.effects.specs.Child.{coerced-given, coerced-entry, coerced-done, element-first, key-within, key-given, key-done, value-given, block-given, static-done, only-block-done}
+use Rattle.effects.specs.Expression.{leaf-done, itself-done, children-given, then-entry, then-done, template-given, template-done, callee-first, callee-within, arguments-given, arguments-done}
 use Rattle.effects.specs.Sum.{sum-planned, sum-told, left-inside, left-given, right-inside, right-given, right-coercion, right-done, left-coercion, left-done, sum-itself, sum-done, side-other}
 use Rattle.effects.specs.Class.{class-planned, class-first, heritage-within, heritage-given, class-itself, keys-given, statics-given, class-done}
 use borrow.Fn.Kinds.{In}
 use borrow.Fn.PlainCycle.{Measures, is, falls, and}
 use Rattle.effects.proofs.listing.list_addition.Reads as list-addition
 use Rattle.effects.proofs.listing.list_addition.Kinds as list-addition-kinds
-use Rattle.effects.proofs.listing.+list_addition+list_child+list_children+list_class+list_expr+list_left+list_static.Lts-list_addition as list-addition-lts
+use Rattle.effects.proofs.listing.+list_addition+list_child+list_children+list_class+list_expr+list_left+list_node+list_static.Lts-list_addition as list-addition-lts
 use Rattle.effects.proofs.listing.list_child.Reads as list-child
 use Rattle.effects.proofs.listing.list_child.Kinds as list-child-kinds
-use Rattle.effects.proofs.listing.+list_addition+list_child+list_children+list_class+list_expr+list_left+list_static.Lts-list_child as list-child-lts
+use Rattle.effects.proofs.listing.+list_addition+list_child+list_children+list_class+list_expr+list_left+list_node+list_static.Lts-list_child as list-child-lts
 use Rattle.effects.proofs.listing.list_children.Reads as list-children
 use Rattle.effects.proofs.listing.list_children.Kinds as list-children-kinds
-use Rattle.effects.proofs.listing.+list_addition+list_child+list_children+list_class+list_expr+list_left+list_static.Lts-list_children as list-children-lts
+use Rattle.effects.proofs.listing.+list_addition+list_child+list_children+list_class+list_expr+list_left+list_node+list_static.Lts-list_children as list-children-lts
 use Rattle.effects.proofs.listing.list_class.Reads as list-class
 use Rattle.effects.proofs.listing.list_class.Kinds as list-class-kinds
-use Rattle.effects.proofs.listing.+list_addition+list_child+list_children+list_class+list_expr+list_left+list_static.Lts-list_class as list-class-lts
+use Rattle.effects.proofs.listing.+list_addition+list_child+list_children+list_class+list_expr+list_left+list_node+list_static.Lts-list_class as list-class-lts
 use Rattle.effects.proofs.listing.list_expr.Reads as list-expr
 use Rattle.effects.proofs.listing.list_expr.Kinds as list-expr-kinds
-use Rattle.effects.proofs.listing.+list_addition+list_child+list_children+list_class+list_expr+list_left+list_static.Lts-list_expr as list-expr-lts
+use Rattle.effects.proofs.listing.+list_addition+list_child+list_children+list_class+list_expr+list_left+list_node+list_static.Lts-list_expr as list-expr-lts
 use Rattle.effects.proofs.listing.list_left.Reads as list-left
 use Rattle.effects.proofs.listing.list_left.Kinds as list-left-kinds
-use Rattle.effects.proofs.listing.+list_addition+list_child+list_children+list_class+list_expr+list_left+list_static.Lts-list_left as list-left-lts
+use Rattle.effects.proofs.listing.+list_addition+list_child+list_children+list_class+list_expr+list_left+list_node+list_static.Lts-list_left as list-left-lts
+use Rattle.effects.proofs.listing.list_node.Reads as list-node
+use Rattle.effects.proofs.listing.list_node.Kinds as list-node-kinds
+use Rattle.effects.proofs.listing.+list_addition+list_child+list_children+list_class+list_expr+list_left+list_node+list_static.Lts-list_node as list-node-lts
 use Rattle.effects.proofs.listing.list_static.Reads as list-static
 use Rattle.effects.proofs.listing.list_static.Kinds as list-static-kinds
-use Rattle.effects.proofs.listing.+list_addition+list_child+list_children+list_class+list_expr+list_left+list_static.Lts-list_static as list-static-lts
-use Rattle.readings.proofs.first_size.Reads as first-size-reads
+use Rattle.effects.proofs.listing.+list_addition+list_child+list_children+list_class+list_expr+list_left+list_node+list_static.Lts-list_static as list-static-lts
 use Rattle.effects.proofs.entry.list_if.Reads as list-if-reads
-use Rattle.readings.proofs.is_addition.Reads as is-addition-reads
+use Rattle.effects.proofs.plan.is_leaf.Reads as is-leaf-reads
 use Rattle.effects.proofs.plan.plan_of.Reads as plan-of-reads
 use Rattle.fields.proofs.sub_at.Reads as sub-at-reads
 use Rattle.fields.proofs.subtree_at.Reads as subtree-at-reads
@@ -46,12 +48,14 @@ use Rattle.readings.proofs.class_is_effect.Reads as class-is-effect-reads
 use Rattle.readings.proofs.has_static_value_at.Reads as has-static-value-at-reads
 use Rattle.readings.proofs.nonempty_static_block_at.Reads as nonempty-static-block-at-reads
 use Rattle.readings.proofs.flagged_at.Reads as flagged-at-reads
+use Rattle.readings.proofs.is_addition.Reads as is-addition-reads
 use Rattle.readings.proofs.possible_symbol_at.Reads as possible-symbol-at-reads
 use Rattle.readings.proofs.string_fact_at.Reads as string-fact-at-reads
-use Rattle.effects.proofs.listing.+list_addition+list_child+list_children+list_class+list_expr+list_left+list_static.{
+use Rattle.readings.proofs.first_size.Reads as first-size-reads
+use Rattle.effects.proofs.listing.+list_addition+list_child+list_children+list_class+list_expr+list_left+list_node+list_static.{
   statement,
 }
-use Rattle.effects.proofs.listing.+list_addition+list_child+list_children+list_class+list_expr+list_left+list_static.Tie.{
+use Rattle.effects.proofs.listing.+list_addition+list_child+list_children+list_class+list_expr+list_left+list_node+list_static.Tie.{
   close,
 }
 
@@ -68,10 +72,13 @@ abbrev μ-list-class : Measures 2 list-class-kinds.ps ℕ
 μ-list-class κs a = a .1 .1 .1 .0 * 1048576 + a .1 .1 .0 * 8 + 1
 
 abbrev μ-list-expr : Measures 2 list-expr-kinds.ps ℕ
-μ-list-expr κs a = a .1 .1 .1 .0 * 1048576 + a .1 .1 .0 * 8 + 2
+μ-list-expr κs a = a .1 .1 .1 .0 * 1048576 + a .1 .1 .0 * 8 + 3
 
 abbrev μ-list-left : Measures 2 list-left-kinds.ps ℕ
-μ-list-left κs a = a .1 .1 .1 .0 * 1048576 + a .1 .1 .0 * 8 + 3
+μ-list-left κs a = a .1 .1 .1 .0 * 1048576 + a .1 .1 .0 * 8 + 4
+
+abbrev μ-list-node : Measures 2 list-node-kinds.ps ℕ
+μ-list-node κs a = a .1 .1 .1 .0 * 1048576 + a .1 .1 .0 * 8 + 2
 
 abbrev μ-list-static : Measures 2 list-static-kinds.ps ℕ
 μ-list-static κs a = a .1 .1 .1 .0 * 1048576 + a .1 .1 .0 * 8 + 3
@@ -130,6 +137,13 @@ abbrev list-left-below : ℕ → In 2 list-left-kinds.ps
 list-left-below t =
     and 2 list-left-kinds.ps (falls 2 list-left-kinds.ps _<_ μ-list-left t) list-left.Pre
 
+abbrev list-node-at : ℕ → In 2 list-node-kinds.ps
+list-node-at t = and 2 list-node-kinds.ps (is 2 list-node-kinds.ps μ-list-node t) list-node.Pre
+
+abbrev list-node-below : ℕ → In 2 list-node-kinds.ps
+list-node-below t =
+    and 2 list-node-kinds.ps (falls 2 list-node-kinds.ps _<_ μ-list-node t) list-node.Pre
+
 abbrev list-static-at : ℕ → In 2 list-static-kinds.ps
 list-static-at t =
     and 2 list-static-kinds.ps (is 2 list-static-kinds.ps μ-list-static t) list-static.Pre
@@ -151,10 +165,13 @@ abbrev list-class-calls : ℕ → list-class-lts.Claims
 list-class-calls t = (sub-at-reads.Asked, sub-at-reads.Learnt, first-size-reads.Asked, first-size-reads.Learnt, list-children-below t, list-children.Post, class-is-effect-reads.Asked, class-is-effect-reads.Learnt, list-if-reads.Asked, list-if-reads.Learnt)
 
 abbrev list-expr-calls : ℕ → list-expr-lts.Claims
-list-expr-calls t = (plan-of-reads.Asked, plan-of-reads.Learnt, list-if-reads.Asked, list-if-reads.Learnt, list-children-below t, list-children.Post, first-size-reads.Asked, first-size-reads.Learnt, list-addition-below t, list-addition.Post, list-class-below t, list-class.Post)
+list-expr-calls t = (is-leaf-reads.Asked, is-leaf-reads.Learnt, flagged-at-reads.Asked, flagged-at-reads.Learnt, list-if-reads.Asked, list-if-reads.Learnt, list-node-below t, list-node.Post)
 
 abbrev list-left-calls : ℕ → list-left-lts.Claims
 list-left-calls t = (is-addition-reads.Asked, is-addition-reads.Learnt, list-addition-below t, list-addition.Post, list-expr-below t, list-expr.Post, string-fact-at-reads.Asked, string-fact-at-reads.Learnt)
+
+abbrev list-node-calls : ℕ → list-node-lts.Claims
+list-node-calls t = (plan-of-reads.Asked, plan-of-reads.Learnt, list-if-reads.Asked, list-if-reads.Learnt, list-children-below t, list-children.Post, first-size-reads.Asked, first-size-reads.Learnt, list-addition-below t, list-addition.Post, list-class-below t, list-class.Post)
 
 abbrev list-static-calls : ℕ → list-static-lts.Claims
 list-static-calls t = (nonempty-static-block-at-reads.Asked, nonempty-static-block-at-reads.Learnt, has-static-value-at-reads.Asked, has-static-value-at-reads.Learnt, sub-at-reads.Asked, sub-at-reads.Learnt, first-size-reads.Asked, first-size-reads.Learnt, list-children-below t, list-children.Post, list-if-reads.Asked, list-if-reads.Learnt)
@@ -193,7 +210,7 @@ list-addition-possible-symbol-at-requires : (t : ℕ) → list-addition-lts.Need
 list-addition-possible-symbol-at-requires t c κs = right-inside _ _ _ _ (c .before .before .before .before .before .before .before .before .before .before .before .before .before .pre .1 .kind-is) (c .before .before .before .before .before .before .before .before .before .before .before .before .before .pre .1 .sub-is) (c .before .before .before .before .before .before .before .before .before .before .before .before .before .pre .1 .given) _ (c .before .before .before .before .before .before .before .before .before .before .subtree-at .ensures .0)
 
 list-addition-list-if-requires : (t : ℕ) → list-addition-lts.Need-list-if-requires (list-addition-calls t) (list-addition-at t) list-addition.Post
-list-addition-list-if-requires t c κs = rw (c .before .before .before .before .before .list-expr .kept .1 .1 .1 .1 .1 .0, c .before .before .before .before .before .before .before .before .before .before .list-left .kept .1 .1 .1 .1 .1 .0) (right-coercion _ _ _ _ (c .before .before .before .before .before .before .before .before .before .before .before .before .before .before .before .pre .1 .kind-is) (c .before .before .before .before .before .before .before .before .before .before .before .before .before .before .before .pre .1 .sub-is) (c .before .before .before .before .before .before .before .before .before .before .before .before .subtree-at .ensures .0) (c .before .before .before .before .before .before .before .subtree-at2 .ensures .0) (c .before .before .before .before .before .before .before .before .before .before .list-left .ensures) (c .before .before .before .before .before .list-expr .ensures) _ (c .before .before .if1 .taken) (c .before .possible-symbol-at .ensures) (c .before .before .before .before .before .before .before .before .before .before .before .before .before .before .before .pre .1 .given))
+list-addition-list-if-requires t c κs = rw (c .before .before .before .before .before .list-expr .kept .1 .1 .1 .1 .1 .0, c .before .before .before .before .before .before .before .before .before .before .list-left .kept .1 .1 .1 .1 .1 .0) (right-coercion _ _ _ _ (c .before .before .before .before .before .before .before .before .before .before .before .before .before .before .before .pre .1 .kind-is) (c .before .before .before .before .before .before .before .before .before .before .before .before .before .before .before .pre .1 .sub-is) (c .before .before .before .before .before .before .before .before .before .before .before .before .subtree-at .ensures .0) (c .before .before .before .before .before .before .before .subtree-at2 .ensures .0) (c .before .before .before .before .before .before .before .before .before .before .list-left .ensures) (c .before .before .before .before .before .list-expr .ensures) (c .before .before .before .before .before .before .before .before .before .before .before .before .before .before .before .pre .1 .given))
 
 list-addition-same-length : (t : ℕ) → list-addition-lts.Need-same-length (list-addition-calls t) (list-addition-at t) list-addition.Post
 list-addition-same-length t c = search needs
@@ -214,7 +231,7 @@ list-addition-add-list-if : (t : ℕ) → list-addition-lts.Need-add-list-if (li
 list-addition-add-list-if t c = omega (arith, left-inside _ _ _ _ (c .before .before .before .before .before .before .before .before .before .before .before .before .before .before .before .before .pre .1 .kind-is) (c .before .before .before .before .before .before .before .before .before .before .before .before .before .before .before .before .pre .1 .sub-is) (c .before .before .before .before .before .before .before .before .before .before .before .before .before .before .before .before .pre .1 .given))
 
 list-addition-list-if-requires-2 : (t : ℕ) → list-addition-lts.Need-list-if-requires-2 (list-addition-calls t) (list-addition-at t) list-addition.Post
-list-addition-list-if-requires-2 t c κs = rw (c .before .before .before .before .before .before .before .list-expr .kept .1 .1 .1 .1 .1 .0, c .before .before .before .before .before .before .before .before .before .before .before .before .list-left .kept .1 .1 .1 .1 .1 .0) (left-coercion _ _ _ _ (c .before .before .before .before .before .before .before .before .before .before .before .before .before .before .before .before .before .pre .1 .kind-is) (c .before .before .before .before .before .before .before .before .before .before .before .before .before .before .before .before .before .pre .1 .sub-is) (c .before .before .before .before .before .before .before .before .before .before .before .before .before .before .subtree-at .ensures .0) (c .before .before .before .before .before .before .before .before .before .subtree-at2 .ensures .0) (c .before .before .before .before .before .before .before .before .before .before .before .before .list-left .ensures) (c .before .before .before .before .before .before .before .list-expr .ensures) _ (c .before .before .before .before .if1 .left) _ (c .before .before .before .string-fact-at .ensures) (c .before .before .if2 .taken) (c .before .possible-symbol-at2 .ensures) (c .before .before .before .before .before .before .before .before .before .before .before .before .before .before .before .before .before .pre .1 .given))
+list-addition-list-if-requires-2 t c κs = rw (c .before .before .before .before .before .before .before .list-expr .kept .1 .1 .1 .1 .1 .0, c .before .before .before .before .before .before .before .before .before .before .before .before .list-left .kept .1 .1 .1 .1 .1 .0) (left-coercion _ _ _ _ (c .before .before .before .before .before .before .before .before .before .before .before .before .before .before .before .before .before .pre .1 .kind-is) (c .before .before .before .before .before .before .before .before .before .before .before .before .before .before .before .before .before .pre .1 .sub-is) (c .before .before .before .before .before .before .before .before .before .before .before .before .before .before .subtree-at .ensures .0) (c .before .before .before .before .before .before .before .before .before .subtree-at2 .ensures .0) (c .before .before .before .before .before .before .before .before .before .before .before .before .list-left .ensures) (c .before .before .before .before .before .before .before .list-expr .ensures) (c .before .before .before .before .before .before .before .before .before .before .before .before .before .before .before .before .before .pre .1 .given))
 
 list-addition-same-length-2 : (t : ℕ) → list-addition-lts.Need-same-length-2 (list-addition-calls t) (list-addition-at t) list-addition.Post
 list-addition-same-length-2 t c = search needs
@@ -226,7 +243,7 @@ list-addition-flagged-at-requires : (t : ℕ) → list-addition-lts.Need-flagged
 list-addition-flagged-at-requires t c κs = given-inside (c .before .before .before .before .before .before .before .before .before .before .before .before .before .before .before .pre .1 .given)
 
 list-addition-list-if-requires-3 : (t : ℕ) → list-addition-lts.Need-list-if-requires-3 (list-addition-calls t) (list-addition-at t) list-addition.Post
-list-addition-list-if-requires-3 t c κs = rw (c .before .before .before .before .before .before .before .list-expr .kept .1 .1 .1 .1 .1 .0, c .before .before .before .before .before .before .before .before .before .before .before .before .list-left .kept .1 .1 .1 .1 .1 .0) (sum-itself _ _ _ _ (c .before .before .before .before .before .before .before .before .before .before .before .before .before .before .before .before .before .pre .1 .kind-is) (c .before .before .before .before .before .before .before .before .before .before .before .before .before .before .before .before .before .pre .1 .sub-is) (c .before .before .before .before .before .before .before .before .before .before .before .before .before .before .subtree-at .ensures .0) (c .before .before .before .before .before .before .before .before .before .subtree-at2 .ensures .0) (c .before .before .before .before .before .before .before .before .before .before .before .before .list-left .ensures) (c .before .before .before .before .before .before .before .list-expr .ensures) _ (c .before .before .before .before .if1 .left) _ (c .before .before .before .string-fact-at .ensures) (c .before .before .if2 .left) (c .before .flagged-at .ensures) (c .before .before .before .before .before .before .before .before .before .before .before .before .before .before .before .before .before .pre .1 .given))
+list-addition-list-if-requires-3 t c κs = rw (c .before .before .before .before .before .before .before .list-expr .kept .1 .1 .1 .1 .1 .0, c .before .before .before .before .before .before .before .before .before .before .before .before .list-left .kept .1 .1 .1 .1 .1 .0) (sum-itself _ _ _ _ (c .before .before .before .before .before .before .before .before .before .before .before .before .before .before .before .before .before .pre .1 .kind-is) (c .before .before .before .before .before .before .before .before .before .before .before .before .before .before .before .before .before .pre .1 .sub-is) (c .before .before .before .before .before .before .before .before .before .before .before .before .before .before .subtree-at .ensures .0) (c .before .before .before .before .before .before .before .before .before .subtree-at2 .ensures .0) (c .before .before .before .before .before .before .before .before .before .before .before .before .list-left .ensures) (c .before .before .before .before .before .before .before .list-expr .ensures) (c .before .before .before .before .before .before .before .before .before .before .before .before .before .before .before .before .before .pre .1 .given))
 
 list-addition-same-length-3 : (t : ℕ) → list-addition-lts.Need-same-length-3 (list-addition-calls t) (list-addition-at t) list-addition.Post
 list-addition-same-length-3 t c = search needs
@@ -250,7 +267,7 @@ list-child-possible-symbol-at-requires : (t : ℕ) → list-child-lts.Need-possi
 list-child-possible-symbol-at-requires t c κs = given-inside (c .before .before .before .before .before .before .before .before .pre .1)
 
 list-child-list-if-requires : (t : ℕ) → list-child-lts.Need-list-if-requires (list-child-calls t) (list-child-at t) list-child.Post
-list-child-list-if-requires t c κs = rw (c .before .before .before .before .list-expr2 .kept .1 .1 .1 .1 .1 .0) (coerced-entry (as-part Coerced (c .before .before .before .before .before .before .enum-told2 .given .1) (c .before .before .before .before .before .before .before .before .before .before .pre .1)) (c .before .before .before .before .list-expr2 .ensures) (c .before .possible-symbol-at .ensures))
+list-child-list-if-requires t c κs = rw (c .before .before .before .before .list-expr2 .kept .1 .1 .1 .1 .1 .0) (coerced-entry (as-part Coerced (c .before .before .before .before .before .before .enum-told2 .given .1) (c .before .before .before .before .before .before .before .before .before .before .pre .1)) (c .before .before .before .before .list-expr2 .ensures))
 
 list-child-enum-told-3 : (t : ℕ) → list-child-lts.Need-enum-told-3 (list-child-calls t) (list-child-at t) list-child.Post
 list-child-enum-told-3 t c = search needs
@@ -375,119 +392,29 @@ list-class-same-length t c = search needs
 list-class-returns : (t : ℕ) → list-class-lts.Need-returns (list-class-calls t) (list-class-at t) list-class.Post
 list-class-returns t c = class-done _ (c .before .before .before .before .before .before .before .before .before .before .before .before .before .before .before .before .before .before .before .before .before .pre .1 .kind-is) _ _ (c .before .before .before .before .before .before .before .before .before .before .before .before .before .before .before .before .before .before .sub-at .ensures .0) refl _ (c .before .before .before .before .before .before .before .before .before .before .before .before .before .before .before .before .before .first-size .ensures) (c .before .before .before .before .before .before .before .before .before .before .before .before .before .before .before .list-children .ensures) _ (c .before .before .before .before .before .before .before .before .before .before .before .before .class-is-effect .ensures) (c .before .before .before .before .before .before .before .before .before .before .list-if .ensures) (c .before .before .before .before .before .before .list-children2 .ensures) (c .before .before .list-children3 .ensures)
 
-list-expr-plan-of-requires : (t : ℕ) → list-expr-lts.Need-plan-of-requires (list-expr-calls t) (list-expr-at t) list-expr.Post
-list-expr-plan-of-requires t c κs = given-node (c .before .before .pre .1)
+list-expr-is-leaf-requires : (t : ℕ) → list-expr-lts.Need-is-leaf-requires (list-expr-calls t) (list-expr-at t) list-expr.Post
+list-expr-is-leaf-requires t c κs = given-inside (c .before .before .pre .1)
 
-list-expr-add-first : (t : ℕ) → list-expr-lts.Need-add-first (list-expr-calls t) (list-expr-at t) list-expr.Post
-list-expr-add-first t c = omega (arith, given-inside (c .before .before .before .pre .1))
-
-list-expr-sub-rest : (t : ℕ) → list-expr-lts.Need-sub-rest (list-expr-calls t) (list-expr-at t) list-expr.Post
-list-expr-sub-rest t c = omega (arith, some-size ((c .before .before .before .pre .1) .input))
-
-list-expr-sub-below : (t : ℕ) → list-expr-lts.Need-sub-below (list-expr-calls t) (list-expr-at t) list-expr.Post
-list-expr-sub-below t c = omega (arith, some-depth ((c .before .before .before .pre .1) .input))
-
-list-expr-enum-told : (t : ℕ) → list-expr-lts.Need-enum-told (list-expr-calls t) (list-expr-at t) list-expr.Post
-list-expr-enum-told t c = search needs
-
-list-expr-enum-told-2 : (t : ℕ) → list-expr-lts.Need-enum-told-2 (list-expr-calls t) (list-expr-at t) list-expr.Post
-list-expr-enum-told-2 t c = search needs
+list-expr-flagged-at-requires : (t : ℕ) → list-expr-lts.Need-flagged-at-requires (list-expr-calls t) (list-expr-at t) list-expr.Post
+list-expr-flagged-at-requires t c κs = search needs
 
 list-expr-list-if-requires : (t : ℕ) → list-expr-lts.Need-list-if-requires (list-expr-calls t) (list-expr-at t) list-expr.Post
-list-expr-list-if-requires t c κs = itself-given (as-plan Itself (c .before .enum-told2 .given .1) (c .before .before .before .plan-of .ensures)) (c .before .before .before .before .before .before .pre .1)
-
-list-expr-enum-told-3 : (t : ℕ) → list-expr-lts.Need-enum-told-3 (list-expr-calls t) (list-expr-at t) list-expr.Post
-list-expr-enum-told-3 t c = search needs
-
-list-expr-list-children-requires : (t : ℕ) → list-expr-lts.Need-list-children-requires (list-expr-calls t) (list-expr-at t) list-expr.Post
-list-expr-list-children-requires t c κs = (omega (arith, c .before .before .before .before .before .before .pre .0, c .before .before .before .before .before .before .pre .1 .input .small, some-depth ((c .before .before .before .before .before .before .pre .1) .input)), children-given (as-plan Children (c .before .enum-told3 .given .1) (c .before .before .before .plan-of .ensures)) (c .before .before .before .before .before .before .pre .1))
-
-list-expr-enum-told-4 : (t : ℕ) → list-expr-lts.Need-enum-told-4 (list-expr-calls t) (list-expr-at t) list-expr.Post
-list-expr-enum-told-4 t c = search needs
-
-list-expr-list-children-requires-2 : (t : ℕ) → list-expr-lts.Need-list-children-requires-2 (list-expr-calls t) (list-expr-at t) list-expr.Post
-list-expr-list-children-requires-2 t c κs = (omega (arith, c .before .before .before .before .before .before .pre .0, c .before .before .before .before .before .before .pre .1 .input .small, some-depth ((c .before .before .before .before .before .before .pre .1) .input)), then-given (as-plan ChildrenThenItself (c .before .enum-told4 .given .1) (c .before .before .before .plan-of .ensures)) (c .before .before .before .before .before .before .pre .1))
-
-list-expr-list-if-requires-2 : (t : ℕ) → list-expr-lts.Need-list-if-requires-2 (list-expr-calls t) (list-expr-at t) list-expr.Post
-list-expr-list-if-requires-2 t c κs = rw (c .before .before .before .list-children2 .kept .1 .1 .1 .1 .1 .1 .0) (then-entry (as-plan ChildrenThenItself (c .before .before .before .before .before .enum-told4 .given .1) (c .before .before .before .before .before .before .before .plan-of .ensures)) (c .before .before .before .list-children2 .ensures) (c .before .before .before .before .before .before .before .before .before .before .pre .1))
-
-list-expr-enum-told-5 : (t : ℕ) → list-expr-lts.Need-enum-told-5 (list-expr-calls t) (list-expr-at t) list-expr.Post
-list-expr-enum-told-5 t c = search needs
-
-list-expr-list-children-requires-3 : (t : ℕ) → list-expr-lts.Need-list-children-requires-3 (list-expr-calls t) (list-expr-at t) list-expr.Post
-list-expr-list-children-requires-3 t c κs = (omega (arith, c .before .before .before .before .before .before .pre .0, c .before .before .before .before .before .before .pre .1 .input .small, some-depth ((c .before .before .before .before .before .before .pre .1) .input)), template-given (as-plan plan.Coerced (c .before .enum-told5 .given .1) (c .before .before .before .plan-of .ensures)) (c .before .before .before .before .before .before .pre .1))
-
-list-expr-enum-told-6 : (t : ℕ) → list-expr-lts.Need-enum-told-6 (list-expr-calls t) (list-expr-at t) list-expr.Post
-list-expr-enum-told-6 t c = search needs
-
-list-expr-first-size-requires : (t : ℕ) → list-expr-lts.Need-first-size-requires (list-expr-calls t) (list-expr-at t) list-expr.Post
-list-expr-first-size-requires t c κs = callee-first (as-plan Arguments (c .enum-told6 .given .1) (c .before .before .plan-of .ensures)) (c .before .before .before .before .before .pre .1)
-
-list-expr-add-start : (t : ℕ) → list-expr-lts.Need-add-start (list-expr-calls t) (list-expr-at t) list-expr.Post
-list-expr-add-start t c = omega (arith, (c .before .before .before .before .before .before .pre .1) .input .inside, some-size ((c .before .before .before .before .before .before .pre .1) .input), callee-within (as-plan Arguments (c .before .enum-told6 .given .1) (c .before .before .before .plan-of .ensures)) _ (c .first-size .ensures) (c .before .before .before .before .before .before .pre .1))
-
-list-expr-sub-left : (t : ℕ) → list-expr-lts.Need-sub-left (list-expr-calls t) (list-expr-at t) list-expr.Post
-list-expr-sub-left t c = omega (arith, callee-within (as-plan Arguments (c .before .enum-told6 .given .1) (c .before .before .before .plan-of .ensures)) _ (c .first-size .ensures) (c .before .before .before .before .before .before .pre .1))
-
-list-expr-list-children-requires-4 : (t : ℕ) → list-expr-lts.Need-list-children-requires-4 (list-expr-calls t) (list-expr-at t) list-expr.Post
-list-expr-list-children-requires-4 t c κs = (omega (arith, c .before .before .before .before .before .before .before .pre .0, c .before .before .before .before .before .before .before .pre .1 .input .small, some-depth ((c .before .before .before .before .before .before .before .pre .1) .input)), arguments-given (as-plan Arguments (c .before .before .enum-told6 .given .1) (c .before .before .before .before .plan-of .ensures)) _ (c .before .first-size .ensures) (c .before .before .before .before .before .before .before .pre .1))
-
-list-expr-enum-told-7 : (t : ℕ) → list-expr-lts.Need-enum-told-7 (list-expr-calls t) (list-expr-at t) list-expr.Post
-list-expr-enum-told-7 t c = search needs
-
-list-expr-list-addition-requires : (t : ℕ) → list-expr-lts.Need-list-addition-requires (list-expr-calls t) (list-expr-at t) list-expr.Post
-list-expr-list-addition-requires t c κs = (omega (arith, c .before .before .before .before .before .before .pre .0), sum-planned (as-plan Addition (c .before .enum-told7 .given .1) (c .before .before .before .plan-of .ensures)) (c .before .before .before .before .before .before .pre .1))
-
-list-expr-enum-told-8 : (t : ℕ) → list-expr-lts.Need-enum-told-8 (list-expr-calls t) (list-expr-at t) list-expr.Post
-list-expr-enum-told-8 t c = search needs
-
-list-expr-list-class-requires : (t : ℕ) → list-expr-lts.Need-list-class-requires (list-expr-calls t) (list-expr-at t) list-expr.Post
-list-expr-list-class-requires t c κs = (omega (arith, c .before .before .before .before .before .before .pre .0), class-planned (as-plan Class (c .before .enum-told8 .given .1) (c .before .before .before .plan-of .ensures)) (c .before .before .before .before .before .before .pre .1))
-
-list-expr-returns : (t : ℕ) → list-expr-lts.Need-returns (list-expr-calls t) (list-expr-at t) list-expr.Post
-list-expr-returns t c = nothing-done (as-plan Nothing (c .enum-told .given .1) (c .before .before .plan-of .ensures))
+list-expr-list-if-requires t c κs = given-itself (c .before .before .before .before .before .before .pre .1)
 
 list-expr-same-length : (t : ℕ) → list-expr-lts.Need-same-length (list-expr-calls t) (list-expr-at t) list-expr.Post
 list-expr-same-length t c = search needs
 
-list-expr-returns-2 : (t : ℕ) → list-expr-lts.Need-returns-2 (list-expr-calls t) (list-expr-at t) list-expr.Post
-list-expr-returns-2 t c = itself-done (as-plan Itself (c .before .before .before .before .enum-told2 .given .1) (c .before .before .before .before .before .before .plan-of .ensures)) (c .before .before .list-if .ensures)
+list-expr-returns : (t : ℕ) → list-expr-lts.Need-returns (list-expr-calls t) (list-expr-at t) list-expr.Post
+list-expr-returns t c = leaf-done (sym (c .before .before .before .before .before .before .is-leaf .ensures) ∙ c .before .before .before .before .before .if1 .taken) _ (c .before .before .before .before .flagged-at .ensures) (c .before .before .list-if .ensures)
+
+list-expr-list-node-requires : (t : ℕ) → list-expr-lts.Need-list-node-requires (list-expr-calls t) (list-expr-at t) list-expr.Post
+list-expr-list-node-requires t c κs = (omega (arith, c .before .before .before .before .before .pre .0), record { given = c .before .before .before .before .before .pre .1; inner = sym (c .before .before .is-leaf .ensures) ∙ c .before .if1 .left })
 
 list-expr-same-length-2 : (t : ℕ) → list-expr-lts.Need-same-length-2 (list-expr-calls t) (list-expr-at t) list-expr.Post
 list-expr-same-length-2 t c = search needs
 
-list-expr-returns-3 : (t : ℕ) → list-expr-lts.Need-returns-3 (list-expr-calls t) (list-expr-at t) list-expr.Post
-list-expr-returns-3 t c = children-done (as-plan Children (c .before .before .before .before .enum-told3 .given .1) (c .before .before .before .before .before .before .plan-of .ensures)) (c .before .before .list-children .ensures)
-
-list-expr-same-length-3 : (t : ℕ) → list-expr-lts.Need-same-length-3 (list-expr-calls t) (list-expr-at t) list-expr.Post
-list-expr-same-length-3 t c = search needs
-
-list-expr-returns-4 : (t : ℕ) → list-expr-lts.Need-returns-4 (list-expr-calls t) (list-expr-at t) list-expr.Post
-list-expr-returns-4 t c = then-done (as-plan ChildrenThenItself (c .before .before .before .before .before .before .before .before .enum-told4 .given .1) (c .before .before .before .before .before .before .before .before .before .before .plan-of .ensures)) (c .before .before .before .before .before .before .list-children2 .ensures) (c .before .before .list-if2 .ensures)
-
-list-expr-same-length-4 : (t : ℕ) → list-expr-lts.Need-same-length-4 (list-expr-calls t) (list-expr-at t) list-expr.Post
-list-expr-same-length-4 t c = search needs
-
-list-expr-returns-5 : (t : ℕ) → list-expr-lts.Need-returns-5 (list-expr-calls t) (list-expr-at t) list-expr.Post
-list-expr-returns-5 t c = template-done (as-plan plan.Coerced (c .before .before .before .before .enum-told5 .given .1) (c .before .before .before .before .before .before .plan-of .ensures)) (c .before .before .list-children3 .ensures)
-
-list-expr-same-length-5 : (t : ℕ) → list-expr-lts.Need-same-length-5 (list-expr-calls t) (list-expr-at t) list-expr.Post
-list-expr-same-length-5 t c = search needs
-
-list-expr-returns-6 : (t : ℕ) → list-expr-lts.Need-returns-6 (list-expr-calls t) (list-expr-at t) list-expr.Post
-list-expr-returns-6 t c = arguments-done (as-plan Arguments (c .before .before .before .before .before .enum-told6 .given .1) (c .before .before .before .before .before .before .before .plan-of .ensures)) _ (c .before .before .before .before .first-size .ensures) (c .before .before .list-children4 .ensures)
-
-list-expr-same-length-6 : (t : ℕ) → list-expr-lts.Need-same-length-6 (list-expr-calls t) (list-expr-at t) list-expr.Post
-list-expr-same-length-6 t c = search needs
-
-list-expr-returns-7 : (t : ℕ) → list-expr-lts.Need-returns-7 (list-expr-calls t) (list-expr-at t) list-expr.Post
-list-expr-returns-7 t c = c .before .before .list-addition .ensures .listed
-
-list-expr-same-length-7 : (t : ℕ) → list-expr-lts.Need-same-length-7 (list-expr-calls t) (list-expr-at t) list-expr.Post
-list-expr-same-length-7 t c = search needs
-
-list-expr-returns-8 : (t : ℕ) → list-expr-lts.Need-returns-8 (list-expr-calls t) (list-expr-at t) list-expr.Post
-list-expr-returns-8 t c = c .before .before .list-class .ensures
+list-expr-returns-2 : (t : ℕ) → list-expr-lts.Need-returns-2 (list-expr-calls t) (list-expr-at t) list-expr.Post
+list-expr-returns-2 t c = c .before .before .list-node .ensures
 
 list-left-is-addition-requires : (t : ℕ) → list-left-lts.Need-is-addition-requires (list-left-calls t) (list-left-at t) list-left.Post
 list-left-is-addition-requires t c κs = given-inside (c .before .before .pre .1)
@@ -512,6 +439,102 @@ list-left-same-length-2 t c = search needs
 
 list-left-returns-2 : (t : ℕ) → list-left-lts.Need-returns-2 (list-left-calls t) (list-left-at t) list-left.Post
 list-left-returns-2 t c = side-other _ _ (c .before .before .before .before .before .before .is-addition .ensures) (c .before .before .before .before .before .if1 .left) (c .string-fact-at .ensures) (c .before .before .before .list-expr .ensures)
+
+list-node-plan-of-requires : (t : ℕ) → list-node-lts.Need-plan-of-requires (list-node-calls t) (list-node-at t) list-node.Post
+list-node-plan-of-requires t c κs = (given-node (c .before .before .pre .1 .given), c .before .before .pre .1 .inner)
+
+list-node-add-first : (t : ℕ) → list-node-lts.Need-add-first (list-node-calls t) (list-node-at t) list-node.Post
+list-node-add-first t c = omega (arith, given-inside (c .before .before .before .pre .1 .given))
+
+list-node-sub-rest : (t : ℕ) → list-node-lts.Need-sub-rest (list-node-calls t) (list-node-at t) list-node.Post
+list-node-sub-rest t c = omega (arith, some-size ((c .before .before .before .pre .1 .given) .input))
+
+list-node-sub-below : (t : ℕ) → list-node-lts.Need-sub-below (list-node-calls t) (list-node-at t) list-node.Post
+list-node-sub-below t c = omega (arith, some-depth ((c .before .before .before .pre .1 .given) .input))
+
+list-node-enum-known-plan : (t : ℕ) → list-node-lts.Need-enum-known-plan (list-node-calls t) (list-node-at t) list-node.Post
+list-node-enum-known-plan t c = search needs
+
+list-node-list-if-requires : (t : ℕ) → list-node-lts.Need-list-if-requires (list-node-calls t) (list-node-at t) list-node.Post
+list-node-list-if-requires t c κs = given-itself (c .before .before .before .before .before .before .before .pre .1 .given)
+
+list-node-enum-known-plan-2 : (t : ℕ) → list-node-lts.Need-enum-known-plan-2 (list-node-calls t) (list-node-at t) list-node.Post
+list-node-enum-known-plan-2 t c = search needs
+
+list-node-list-children-requires : (t : ℕ) → list-node-lts.Need-list-children-requires (list-node-calls t) (list-node-at t) list-node.Post
+list-node-list-children-requires t c κs = (omega (arith, c .before .before .before .before .before .before .before .pre .0, c .before .before .before .before .before .before .before .pre .1 .given .input .small, some-depth ((c .before .before .before .before .before .before .before .pre .1 .given) .input)), children-given _ (as-plan (Children _) (c .before .before .plan2 .given .1) (c .before .before .before .before .plan-of .ensures)) (c .before .before .before .before .before .before .before .pre .1 .given))
+
+list-node-list-if-requires-2 : (t : ℕ) → list-node-lts.Need-list-if-requires-2 (list-node-calls t) (list-node-at t) list-node.Post
+list-node-list-if-requires-2 t c κs = rw (c .before .before .before .list-children .kept .1 .1 .1 .1 .1 .1 .0) (then-entry _ (as-plan (Children _) (c .before .before .before .before .before .before .plan2 .given .1) (c .before .before .before .before .before .before .before .before .plan-of .ensures)) (c .before .before .before .list-children .ensures) (c .before .before .before .before .before .before .before .before .before .before .before .pre .1 .given))
+
+list-node-enum-told : (t : ℕ) → list-node-lts.Need-enum-told (list-node-calls t) (list-node-at t) list-node.Post
+list-node-enum-told t c = search needs
+
+list-node-list-children-requires-2 : (t : ℕ) → list-node-lts.Need-list-children-requires-2 (list-node-calls t) (list-node-at t) list-node.Post
+list-node-list-children-requires-2 t c κs = (omega (arith, c .before .before .before .before .before .before .pre .0, c .before .before .before .before .before .before .pre .1 .given .input .small, some-depth ((c .before .before .before .before .before .before .pre .1 .given) .input)), template-given (as-plan plan.Coerced (c .before .enum-told .given .1) (c .before .before .before .plan-of .ensures)) (c .before .before .before .before .before .before .pre .1 .given))
+
+list-node-enum-told-2 : (t : ℕ) → list-node-lts.Need-enum-told-2 (list-node-calls t) (list-node-at t) list-node.Post
+list-node-enum-told-2 t c = search needs
+
+list-node-first-size-requires : (t : ℕ) → list-node-lts.Need-first-size-requires (list-node-calls t) (list-node-at t) list-node.Post
+list-node-first-size-requires t c κs = callee-first (as-plan Arguments (c .enum-told2 .given .1) (c .before .before .plan-of .ensures)) (c .before .before .before .before .before .pre .1 .given)
+
+list-node-add-start : (t : ℕ) → list-node-lts.Need-add-start (list-node-calls t) (list-node-at t) list-node.Post
+list-node-add-start t c = omega (arith, (c .before .before .before .before .before .before .pre .1 .given) .input .inside, some-size ((c .before .before .before .before .before .before .pre .1 .given) .input), callee-within (as-plan Arguments (c .before .enum-told2 .given .1) (c .before .before .before .plan-of .ensures)) _ (c .first-size .ensures) (c .before .before .before .before .before .before .pre .1 .given))
+
+list-node-sub-left : (t : ℕ) → list-node-lts.Need-sub-left (list-node-calls t) (list-node-at t) list-node.Post
+list-node-sub-left t c = omega (arith, callee-within (as-plan Arguments (c .before .enum-told2 .given .1) (c .before .before .before .plan-of .ensures)) _ (c .first-size .ensures) (c .before .before .before .before .before .before .pre .1 .given))
+
+list-node-list-children-requires-3 : (t : ℕ) → list-node-lts.Need-list-children-requires-3 (list-node-calls t) (list-node-at t) list-node.Post
+list-node-list-children-requires-3 t c κs = (omega (arith, c .before .before .before .before .before .before .before .pre .0, c .before .before .before .before .before .before .before .pre .1 .given .input .small, some-depth ((c .before .before .before .before .before .before .before .pre .1 .given) .input)), arguments-given (as-plan Arguments (c .before .before .enum-told2 .given .1) (c .before .before .before .before .plan-of .ensures)) _ (c .before .first-size .ensures) (c .before .before .before .before .before .before .before .pre .1 .given))
+
+list-node-enum-told-3 : (t : ℕ) → list-node-lts.Need-enum-told-3 (list-node-calls t) (list-node-at t) list-node.Post
+list-node-enum-told-3 t c = search needs
+
+list-node-list-addition-requires : (t : ℕ) → list-node-lts.Need-list-addition-requires (list-node-calls t) (list-node-at t) list-node.Post
+list-node-list-addition-requires t c κs = (omega (arith, c .before .before .before .before .before .before .pre .0), sum-planned (as-plan Addition (c .before .enum-told3 .given .1) (c .before .before .before .plan-of .ensures)) (c .before .before .before .before .before .before .pre .1 .given))
+
+list-node-enum-told-4 : (t : ℕ) → list-node-lts.Need-enum-told-4 (list-node-calls t) (list-node-at t) list-node.Post
+list-node-enum-told-4 t c = search needs
+
+list-node-list-class-requires : (t : ℕ) → list-node-lts.Need-list-class-requires (list-node-calls t) (list-node-at t) list-node.Post
+list-node-list-class-requires t c κs = (omega (arith, c .before .before .before .before .before .before .pre .0), class-planned (as-plan Class (c .before .enum-told4 .given .1) (c .before .before .before .plan-of .ensures)) (c .before .before .before .before .before .before .pre .1 .given))
+
+list-node-same-length : (t : ℕ) → list-node-lts.Need-same-length (list-node-calls t) (list-node-at t) list-node.Post
+list-node-same-length t c = search needs
+
+list-node-returns : (t : ℕ) → list-node-lts.Need-returns (list-node-calls t) (list-node-at t) list-node.Post
+list-node-returns t c = itself-done _ (as-plan (Itself _) (c .before .before .before .before .before .plan .given .1) (c .before .before .before .before .before .before .before .plan-of .ensures)) (c .before .before .list-if .ensures)
+
+list-node-same-length-2 : (t : ℕ) → list-node-lts.Need-same-length-2 (list-node-calls t) (list-node-at t) list-node.Post
+list-node-same-length-2 t c = search needs
+
+list-node-returns-2 : (t : ℕ) → list-node-lts.Need-returns-2 (list-node-calls t) (list-node-at t) list-node.Post
+list-node-returns-2 t c = then-done _ (as-plan (Children _) (c .before .before .before .before .before .before .before .before .before .plan2 .given .1) (c .before .before .before .before .before .before .before .before .before .before .before .plan-of .ensures)) (c .before .before .before .before .before .before .list-children .ensures) (c .before .before .list-if2 .ensures)
+
+list-node-same-length-3 : (t : ℕ) → list-node-lts.Need-same-length-3 (list-node-calls t) (list-node-at t) list-node.Post
+list-node-same-length-3 t c = search needs
+
+list-node-returns-3 : (t : ℕ) → list-node-lts.Need-returns-3 (list-node-calls t) (list-node-at t) list-node.Post
+list-node-returns-3 t c = template-done (as-plan plan.Coerced (c .before .before .before .before .enum-told .given .1) (c .before .before .before .before .before .before .plan-of .ensures)) (c .before .before .list-children2 .ensures)
+
+list-node-same-length-4 : (t : ℕ) → list-node-lts.Need-same-length-4 (list-node-calls t) (list-node-at t) list-node.Post
+list-node-same-length-4 t c = search needs
+
+list-node-returns-4 : (t : ℕ) → list-node-lts.Need-returns-4 (list-node-calls t) (list-node-at t) list-node.Post
+list-node-returns-4 t c = arguments-done (as-plan Arguments (c .before .before .before .before .before .enum-told2 .given .1) (c .before .before .before .before .before .before .before .plan-of .ensures)) _ (c .before .before .before .before .first-size .ensures) (c .before .before .list-children3 .ensures)
+
+list-node-same-length-5 : (t : ℕ) → list-node-lts.Need-same-length-5 (list-node-calls t) (list-node-at t) list-node.Post
+list-node-same-length-5 t c = search needs
+
+list-node-returns-5 : (t : ℕ) → list-node-lts.Need-returns-5 (list-node-calls t) (list-node-at t) list-node.Post
+list-node-returns-5 t c = c .before .before .list-addition .ensures .listed
+
+list-node-same-length-6 : (t : ℕ) → list-node-lts.Need-same-length-6 (list-node-calls t) (list-node-at t) list-node.Post
+list-node-same-length-6 t c = search needs
+
+list-node-returns-6 : (t : ℕ) → list-node-lts.Need-returns-6 (list-node-calls t) (list-node-at t) list-node.Post
+list-node-returns-6 t c = c .before .before .list-class .ensures
 
 list-static-nonempty-static-block-at-requires : (t : ℕ) → list-static-lts.Need-nonempty-static-block-at-requires (list-static-calls t) (list-static-at t) list-static.Post
 list-static-nonempty-static-block-at-requires t c κs = given-inside (c .before .before .pre .1)
@@ -553,7 +576,7 @@ list-static-returns : (t : ℕ) → list-static-lts.Need-returns (list-static-ca
 list-static-returns t c = static-done _ _ (c .before .before .before .before .before .before .before .before .before .sub-at .ensures .0) refl _ (c .before .before .before .before .before .before .before .before .first-size .ensures) _ _ (c .before .before .before .before .before .before .before .before .before .before .before .has-static-value-at .ensures) (c .before .before .before .before .before .before .before .before .before .before .if1 .taken) (c .before .before .before .before .before .before .list-children .ensures) _ (c .before .before .before .before .before .before .before .before .before .before .before .before .nonempty-static-block-at .ensures) (c .before .before .list-if .ensures)
 
 list-static-list-if-requires-2 : (t : ℕ) → list-static-lts.Need-list-if-requires-2 (list-static-calls t) (list-static-at t) list-static.Post
-list-static-list-if-requires-2 t c κs = only-block-given _ _ (c .before .before .has-static-value-at .ensures) (c .before .if1 .left) _ (c .before .before .before .nonempty-static-block-at .ensures) (c .before .before .before .before .before .before .pre .1)
+list-static-list-if-requires-2 t c κs = given-itself (c .before .before .before .before .before .before .pre .1)
 
 list-static-same-length-2 : (t : ℕ) → list-static-lts.Need-same-length-2 (list-static-calls t) (list-static-at t) list-static.Post
 list-static-same-length-2 t c = search needs
@@ -561,9 +584,9 @@ list-static-same-length-2 t c = search needs
 list-static-returns-2 : (t : ℕ) → list-static-lts.Need-returns-2 (list-static-calls t) (list-static-at t) list-static.Post
 list-static-returns-2 t c = only-block-done _ _ (c .before .before .before .before .before .has-static-value-at .ensures) (c .before .before .before .before .if1 .left) _ (c .before .before .before .before .before .before .nonempty-static-block-at .ensures) (c .before .before .list-if2 .ensures)
 
-pub +list-addition+list-child+list-children+list-class+list-expr+list-left+list-static-spec :
+pub +list-addition+list-child+list-children+list-class+list-expr+list-left+list-node+list-static-spec :
     {M : Type 1} → statement M
-+list-addition+list-child+list-children+list-class+list-expr+list-left+list-static-spec =
++list-addition+list-child+list-children+list-class+list-expr+list-left+list-node+list-static-spec =
     close
     μ-list-addition
     μ-list-child
@@ -571,6 +594,7 @@ pub +list-addition+list-child+list-children+list-class+list-expr+list-left+list-
     μ-list-class
     μ-list-expr
     μ-list-left
+    μ-list-node
     μ-list-static
     (λ t. list-addition-lts.spec (list-addition-calls t)
     (list-addition-at t)
@@ -659,44 +683,14 @@ pub +list-addition+list-child+list-children+list-class+list-expr+list-left+list-
     (λ t. list-expr-lts.spec (list-expr-calls t)
     (list-expr-at t)
     list-expr.Post
-    (list-expr-plan-of-requires t)
-    (list-expr-add-first t)
-    (list-expr-sub-rest t)
-    (list-expr-sub-below t)
-    (list-expr-enum-told t)
-    (list-expr-enum-told-2 t)
+    (list-expr-is-leaf-requires t)
+    (list-expr-flagged-at-requires t)
     (list-expr-list-if-requires t)
-    (list-expr-enum-told-3 t)
-    (list-expr-list-children-requires t)
-    (list-expr-enum-told-4 t)
-    (list-expr-list-children-requires-2 t)
-    (list-expr-list-if-requires-2 t)
-    (list-expr-enum-told-5 t)
-    (list-expr-list-children-requires-3 t)
-    (list-expr-enum-told-6 t)
-    (list-expr-first-size-requires t)
-    (list-expr-add-start t)
-    (list-expr-sub-left t)
-    (list-expr-list-children-requires-4 t)
-    (list-expr-enum-told-7 t)
-    (list-expr-list-addition-requires t)
-    (list-expr-enum-told-8 t)
-    (list-expr-list-class-requires t)
-    (list-expr-returns t)
     (list-expr-same-length t)
-    (list-expr-returns-2 t)
+    (list-expr-returns t)
+    (list-expr-list-node-requires t)
     (list-expr-same-length-2 t)
-    (list-expr-returns-3 t)
-    (list-expr-same-length-3 t)
-    (list-expr-returns-4 t)
-    (list-expr-same-length-4 t)
-    (list-expr-returns-5 t)
-    (list-expr-same-length-5 t)
-    (list-expr-returns-6 t)
-    (list-expr-same-length-6 t)
-    (list-expr-returns-7 t)
-    (list-expr-same-length-7 t)
-    (list-expr-returns-8 t))
+    (list-expr-returns-2 t))
     (λ t. list-left-lts.spec (list-left-calls t)
     (list-left-at t)
     list-left.Post
@@ -708,6 +702,41 @@ pub +list-addition+list-child+list-children+list-class+list-expr+list-left+list-
     (list-left-string-fact-at-requires t)
     (list-left-same-length-2 t)
     (list-left-returns-2 t))
+    (λ t. list-node-lts.spec (list-node-calls t)
+    (list-node-at t)
+    list-node.Post
+    (list-node-plan-of-requires t)
+    (list-node-add-first t)
+    (list-node-sub-rest t)
+    (list-node-sub-below t)
+    (list-node-enum-known-plan t)
+    (list-node-list-if-requires t)
+    (list-node-enum-known-plan-2 t)
+    (list-node-list-children-requires t)
+    (list-node-list-if-requires-2 t)
+    (list-node-enum-told t)
+    (list-node-list-children-requires-2 t)
+    (list-node-enum-told-2 t)
+    (list-node-first-size-requires t)
+    (list-node-add-start t)
+    (list-node-sub-left t)
+    (list-node-list-children-requires-3 t)
+    (list-node-enum-told-3 t)
+    (list-node-list-addition-requires t)
+    (list-node-enum-told-4 t)
+    (list-node-list-class-requires t)
+    (list-node-same-length t)
+    (list-node-returns t)
+    (list-node-same-length-2 t)
+    (list-node-returns-2 t)
+    (list-node-same-length-3 t)
+    (list-node-returns-3 t)
+    (list-node-same-length-4 t)
+    (list-node-returns-4 t)
+    (list-node-same-length-5 t)
+    (list-node-returns-5 t)
+    (list-node-same-length-6 t)
+    (list-node-returns-6 t))
     λ t. list-static-lts.spec (list-static-calls t)
     (list-static-at t)
     list-static.Post

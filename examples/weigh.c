@@ -1,0 +1,36 @@
+/* Weighs the tree file of standard input: how many bytes, records and effects it has, and how many are left.
+ * Built by `./uxt lib`'s line; `./test` builds and runs it. */
+#include <stdio.h>
+
+#include "uxt.h"
+
+#define MOST_FILE 32008 /* a file of 2,000 records */
+
+static uint8_t file[MOST_FILE + 1], left[UXT_MOST_OUT];
+static uint64_t entries[UXT_MOST_ENTRIES];
+
+static unsigned records(const uint8_t *tree) {
+    return tree[6] + 256u * tree[7];
+}
+
+/* Reduce has taken the file, and List effects takes all that Reduce takes or keeps. */
+static unsigned effects(const uint8_t *tree, size_t length) {
+    return UXT_COUNT(uxt_list_effects(tree, length, entries, UXT_MOST_ENTRIES));
+}
+
+int main(void) {
+    size_t length = fread(file, 1, sizeof file, stdin);
+    uint64_t answer = uxt_reduce(file, length, left, sizeof left);
+    if (UXT_NUMBER(answer) != 0) {
+        printf("refused %u\n", (unsigned)UXT_NUMBER(answer));
+        return 0;
+    }
+    printf("before: %zu bytes, %u records, %u effects\n", length, records(file), effects(file, length));
+    if (UXT_LENGTH(answer) == 0) {
+        printf("after: removable\n");
+        return 0;
+    }
+    unsigned kept = UXT_LENGTH(answer);
+    printf("after: %u bytes, %u records, %u effects\n", kept, records(left), effects(left, kept));
+    return 0;
+}
