@@ -11,12 +11,13 @@ the crates. The program `edges` (crates/edges) reads the cases and must print th
                                refusal, or SETTINGS/RECORDS where the file is accepted
   edges.py names               a line for each case: what it is
   edges.py example NAME        the bytes of examples/NAME.uxt
-  edges.py examples-expected   the lines of examples/expected
+  edges.py examples-expected   the lines of examples/expected: a verdict on each file there
 
 Every answer comes from the reader below. Beside a case stands the answer worked out by hand, and
 the script stops where the two differ; only the cases of `changed_bytes` have none.
 """
 
+import pathlib
 import sys
 
 REDUCE = (2000, 64)  # most records, greatest depth
@@ -699,6 +700,11 @@ EXAMPLES = {
 }
 
 
+def example_files():
+    """All of them; the others have a text each, for assemble.py."""
+    return sorted((pathlib.Path(__file__).resolve().parent.parent / "examples").glob("*.uxt"))
+
+
 def verdict(data):
     read = answer(data, REDUCE)
     if isinstance(read, int):
@@ -728,8 +734,8 @@ def main(words):
     elif len(words) == 2 and words[0] == "example" and words[1] in EXAMPLES:
         out.write(EXAMPLES[words[1]])
     elif words == ["examples-expected"]:
-        for name, data in EXAMPLES.items():
-            print(f"{name}.uxt {verdict(data)}")
+        for path in example_files():
+            print(path.name, verdict(path.read_bytes()))
     else:
         sys.exit(f"usage: edges.py cases | expected | names | example {'|'.join(EXAMPLES)} | examples-expected")
 

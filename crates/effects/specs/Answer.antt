@@ -1,10 +1,11 @@
 -- What List effects answers: document 01's number and values for every case, and every lent entry.
-use mathlib.Core.Path.{_≡_, refl}
+use mathlib.Core.Path.{_≡_, refl, sym, ap, _∙_}
 use mathlib.Core.Bool.{Bool, cond}
 use mathlib.Core.List.{List, [], _∷_, _++_}
-use Prim.Native.Nat.{ℕ, zero, suc, _*_}
+use Prim.Native.Nat.{ℕ, zero, suc, _*_, _≤_}
+use native.Mathlib.Omega.{arith}
 use lib.Dec.{ltb}
-use lib.ListN.{length, drop}
+use lib.ListN.{length, drop, length-append}
 use Rattle.stated.specs.Stated.{Stated, refused, answered, injective-by}
 use Rattle.tree.specs.Fields.{settingsOf, countOf}
 use Rattle.tree.specs.Refusal.{listEffectsLimits, refusal, treeOf}
@@ -58,3 +59,17 @@ stated-injective = injective-by stated listedOf read
     read : (a : Listed) → listedOf (stated a) ≡ a
     read (Refused n) = refl
     read (Count n) = refl
+
+-- The effects that are counted stand in the entries.
+pub count-within : {s old new : List ℕ} {r : Listed} {n : ℕ} → Answers s old new r → r ≡ Count n → n ≤ length new
+count-within {s} {old} {new} {r} {n} a counts = rw (a .entries) (go (number s (length old)) (effectList s) (ap stated (sym counts) ∙ a .answer))
+  where
+    go : (k : ℕ) (l : List ℕ) → answered (n ∷ []) ≡ statedOf k l → n ≤ length (entriesOf k l old)
+    go zero l e =
+        let values : n ∷ [] ≡ length l ∷ [] = ap (λ (x : Stated). x .values) e in
+        let counted : n ≡ length l = cc in
+        omega (arith, length-append l (drop (length l) old))
+    go (suc k) l e =
+        let values : n ∷ [] ≡ [] = ap (λ (x : Stated). x .values) e in
+        let z : _≡_ {A = ℕ} 0 1 = cc in
+        omega arith

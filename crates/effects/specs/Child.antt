@@ -14,46 +14,46 @@ use Rattle.rules.specs.Class.{hasStaticValue, nonemptyStaticBlock, staticValue}
 use Rattle.rules.specs.Effects.{evaluate, effects, effectsOf, itselfIf, coercion}
 use Rattle.rules.specs.Proofs.Effects.{key-is, static-is}
 use Rattle.readings.specs.Node.{Tells}
-use Rattle.tree.specs.Kind as kind
-use Rattle.effects.specs.declared.listing.Part.{Part}
-use Rattle.effects.specs.declared.listing.Part.the-variants.{InOrder, Coerced, Key, Static}
-use Rattle.effects.specs.Listing.{allListedAs, Wrote, GivenChildren, ListedChildren, GivenTree, ListedTree, wrote-both, wrote-as}
-use Rattle.effects.specs.Entry.{effectAt, GivenEntry, given-entry, wrote-itself, wrote-coercion}
+use Rattle.effects.specs.declared.listing.Part.the-variants.{Coerced, Key, Static}
+use Rattle.stated.specs.Wrote.{Wrote, wrote-both, wrote-as}
+use Rattle.effects.specs.Listing.{Listing, InOrder, of, allListedAs, GivenChildren, ListedChildren, GivenTree, ListedTree}
+use Rattle.effects.specs.Entry.{effectAt, GivenEntry, entry-itself, entry-coercion, wrote-itself, wrote-coercion}
 use Rattle.readings.specs.Input.{Input, input-node}
 use Rattle.readings.specs.First.{firstSize, GivenFirst}
 use Rattle.readings.specs.Element.{key-split, key-first}
 
 module _ {s : List ℕ} {at size depth : ℕ} {st : Settings} {pos : ℕ} where
-  pub coerced-given : {room : ℕ} → GivenTree s at size depth st Coerced pos room → GivenTree s at size depth st InOrder pos room
+  pub coerced-given : {room : ℕ} → GivenTree s at size depth st (of Coerced) pos room → GivenTree s at size depth st InOrder pos room
   coerced-given g = record { tree = g .tree; input = g .input; fits = omega (arith, g .fits, length-append (effects st (g .tree)) (coercion (g .tree))) }
 
-  pub coerced-entry : {room : ℕ} → GivenTree s at size depth st Coerced pos room → {old mid : List ℕ} {next : ℕ} → ListedTree s at size depth st InOrder old mid pos next → GivenEntry s at 1 next room
-  coerced-entry g a =
-      given-entry (input-node (g .input)) (omega arith)
+  pub coerced-entry : {room : ℕ} → GivenTree s at size depth st (of Coerced) pos room → {old mid : List ℕ} {next : ℕ} → ListedTree s at size depth st InOrder old mid pos next → (when : Bool) → Tells s at possibleSymbol when
+      → GivenEntry s at when 1 next room
+  coerced-entry g a when p =
+      entry-coercion (input-node (g .input)) when (p .by (g .tree) (input-node (g .input)))
       (omega (arith, a .by (g .tree) (g .input) .ends, g .fits, length-append (effects st (g .tree)) (coercion (g .tree))))
 
   pub coerced-done : {old mid new : List ℕ} {next r : ℕ} → ListedTree s at size depth st InOrder old mid pos next → {when : Bool} → Tells s at possibleSymbol when
-      → Wrote mid new next r (keepIf when (effectAt s at 1)) → ListedTree s at size depth st Coerced old new pos r
+      → Wrote mid new next r (keepIf when (effectAt s at 1)) → ListedTree s at size depth st (of Coerced) old new pos r
   coerced-done a {when} p w = record { by = λ t i. wrote-both (a .by t i) (wrote-coercion (input-node i) when (p .by t (input-node i)) w) }
 
 module _ {s : List ℕ} {at size depth : ℕ} (u has : ℕ) (eu : u ≡ headAt s at .sub) (eh : has ≡ u / 16 % 2) where
-  pub element-first : {st : Settings} {part : Part} {pos room : ℕ} → GivenTree s at size depth st part pos room → GivenFirst s at has
+  pub element-first : {st : Settings} {part : Listing} {pos room : ℕ} → GivenTree s at size depth st part pos room → GivenFirst s at has
   element-first g = key-first u has eu eh (g .tree) (g .input)
 
   module _ (k : ℕ) (ek : k ≡ firstSize s at has) where
-    pub key-within : {st : Settings} {part : Part} {pos room : ℕ} → GivenTree s at size depth st part pos room → k ≤ size - 1
+    pub key-within : {st : Settings} {part : Listing} {pos room : ℕ} → GivenTree s at size depth st part pos room → k ≤ size - 1
     key-within g = key-split u has eu eh k ek (g .tree) (g .input) .within
 
     module _ (st : Settings) where
       key-list : (t : Tree) (i : Input s at size depth (one t)) → allListedAs st InOrder (key-split u has eu eh k ek t i .first) ≡ evaluate st t .key
       key-list t i = ap (concatMap (effects st)) (key-split u has eu eh k ek t i .first-is) ∙ sym (key-is st t)
 
-      pub key-given : {pos room : ℕ} → GivenTree s at size depth st Key pos room → GivenChildren s (at + 1) k (depth - 1) st InOrder pos room
+      pub key-given : {pos room : ℕ} → GivenTree s at size depth st (of Key) pos room → GivenChildren s (at + 1) k (depth - 1) st InOrder pos room
       key-given g =
           let p = key-split u has eu eh k ek (g .tree) (g .input) in
           record { forest = p .first; input = p .first-in; fits = rw (key-list (g .tree) (g .input)) (g .fits) }
 
-      pub key-done : {old new : List ℕ} {pos r : ℕ} → ListedChildren s (at + 1) k (depth - 1) st InOrder old new pos r → ListedTree s at size depth st Key old new pos r
+      pub key-done : {old new : List ℕ} {pos r : ℕ} → ListedChildren s (at + 1) k (depth - 1) st InOrder old new pos r → ListedTree s at size depth st (of Key) old new pos r
       key-done a = record { by = λ t i. wrote-as (a .by (key-split u has eu eh k ek t i .first) (key-split u has eu eh k ek t i .first-in)) (key-list t i) }
 
       -- The static value of an element: the children behind its key.
@@ -64,7 +64,7 @@ module _ {s : List ℕ} {at size depth : ℕ} (u has : ℕ) (eu : u ≡ headAt s
         has-value : (t : Tree) → Input s at size depth (one t) → hasStaticValue t ≡ true
         has-value t i = sym (eb .by t (input-node i)) ∙ v
 
-        pub value-given : {pos room : ℕ} → GivenTree s at size depth st Static pos room → GivenChildren s (at + 1 + k) (size - 1 - k) (depth - 1) st InOrder pos room
+        pub value-given : {pos room : ℕ} → GivenTree s at size depth st (of Static) pos room → GivenChildren s (at + 1 + k) (size - 1 - k) (depth - 1) st InOrder pos room
         value-given g =
             let t = g .tree in
             let i = g .input in
@@ -80,13 +80,14 @@ module _ {s : List ℕ} {at size depth : ℕ} (u has : ℕ) (eu : u ≡ headAt s
           value-wrote : (t : Tree) → Input s at size depth (one t) → Wrote old mid pos next (effectsOf st (staticValue t))
           value-wrote t i = wrote-as (a .by (key-split u has eu eh k ek t i .rest) (key-split u has eu eh k ek t i .rest-in)) (value-list t i (has-value t i))
 
-          pub block-given : {room : ℕ} → GivenTree s at size depth st Static pos room → GivenEntry s at 0 next room
+          pub block-given : {room : ℕ} → GivenTree s at size depth st (of Static) pos room → GivenEntry s at w 0 next room
           block-given g =
               let t = g .tree in
-              given-entry (input-node (g .input)) (omega arith)
-              (omega (arith, value-wrote t (g .input) .ends, g .fits, ap length (static-is st t), length-append (effectsOf st (staticValue t)) (itselfIf (nonemptyStaticBlock t) t)))
+              let e : length (itselfIf w t) ≡ length (itselfIf (nonemptyStaticBlock t) t) = rw (ew .by t (input-node (g .input))) in
+              entry-itself (input-node (g .input)) w
+              (omega (arith, e, value-wrote t (g .input) .ends, g .fits, ap length (static-is st t), length-append (effectsOf st (staticValue t)) (itselfIf (nonemptyStaticBlock t) t)))
 
-          pub static-done : {new : List ℕ} {r : ℕ} → Wrote mid new next r (keepIf w (effectAt s at 0)) → ListedTree s at size depth st Static old new pos r
+          pub static-done : {new : List ℕ} {r : ℕ} → Wrote mid new next r (keepIf w (effectAt s at 0)) → ListedTree s at size depth st (of Static) old new pos r
           static-done x = record {
             by = λ t i.
                 wrote-as (wrote-both (value-wrote t i) (wrote-as (wrote-itself (input-node i) w x) (ap (λ (y : Bool). itselfIf y t) (ew .by t (input-node i))))) (sym (static-is st t));
@@ -97,7 +98,13 @@ module _ {s : List ℕ} {at size depth : ℕ} (st : Settings) (b : Bool) (eb : T
   block-list : (t : Tree) → Input s at size depth (one t) → itselfIf (nonemptyStaticBlock t) t ≡ evaluate st t .static
   block-list t i = sym (static-is st t ∙ rw (sym (eb .by t (input-node i)) ∙ v))
 
-  pub only-block-done : {old new : List ℕ} {pos r : ℕ} → Wrote old new pos r (keepIf w (effectAt s at 0)) → ListedTree s at size depth st Static old new pos r
+  pub only-block-given : {pos room : ℕ} → GivenTree s at size depth st (of Static) pos room → GivenEntry s at w 0 pos room
+  only-block-given g =
+      let t = g .tree in
+      let e : length (itselfIf w t) ≡ length (itselfIf (nonemptyStaticBlock t) t) = rw (ew .by t (input-node (g .input))) in
+      entry-itself (input-node (g .input)) w (omega (arith, e, g .fits, ap length (block-list t (g .input))))
+
+  pub only-block-done : {old new : List ℕ} {pos r : ℕ} → Wrote old new pos r (keepIf w (effectAt s at 0)) → ListedTree s at size depth st (of Static) old new pos r
   only-block-done x = record {
     by = λ t i. wrote-as (wrote-itself (input-node i) w x) (ap (λ (y : Bool). itselfIf y t) (ew .by t (input-node i)) ∙ block-list t i);
   }

@@ -17,11 +17,11 @@ use Rattle.tree.specs.Kind as kind
 use Rattle.readings.specs.Split.{Split}
 use Rattle.readings.specs.Heritage.{heritage-split, heritage-first}
 use Rattle.effects.specs.Plan.{Planned, Plans, plan-class}
-use Rattle.effects.specs.declared.listing.Part.{Part}
-use Rattle.effects.specs.declared.listing.Part.the-variants.{InOrder, Key, Static}
+use Rattle.effects.specs.declared.listing.Part.the-variants.{Key, Static}
 use Rattle.effects.specs.declared.plan.Plan.the-variants.{Class}
-use Rattle.effects.specs.Listing.{listedAs, allListedAs, Wrote, GivenChildren, ListedChildren, GivenTree, ListedTree, wrote-both, wrote-as}
-use Rattle.effects.specs.Entry.{effectAt, GivenEntry, given-entry, wrote-itself}
+use Rattle.stated.specs.Wrote.{Wrote, wrote-both, wrote-as}
+use Rattle.effects.specs.Listing.{Listing, InOrder, of, listedAs, allListedAs, GivenChildren, ListedChildren, GivenTree, ListedTree}
+use Rattle.effects.specs.Entry.{effectAt, GivenEntry, entry-itself, wrote-itself}
 use Rattle.effects.specs.Expression.{plan-at}
 use Rattle.readings.specs.Input.{Input, input-node}
 use Rattle.readings.specs.First.{firstSize, GivenFirst}
@@ -47,15 +47,15 @@ module _ {s : List ℕ} {at size depth : ℕ} (st : Settings) (ek : headAt s at 
     heritage-list : (t : Tree) (i : Input s at size depth (one t)) → allListedAs st InOrder (class-split t i .first) ≡ effectsOf st (heritage t)
     heritage-list t i = ap (concatMap (effects st)) (class-split t i .first-is)
 
-    elements-list : (part : Part) (t : Tree) (i : Input s at size depth (one t)) → allListedAs st part (class-split t i .rest) ≡ concatMap (listedAs st part) (elements t)
+    elements-list : (part : Listing) (t : Tree) (i : Input s at size depth (one t)) → allListedAs st part (class-split t i .rest) ≡ concatMap (listedAs st part) (elements t)
     elements-list part t i = ap (concatMap (listedAs st part)) (class-split t i .rest-is)
 
     class-length : {pos room : ℕ} (g : GivenTree s at size depth st InOrder pos room)
-        → pos + (length (effectsOf st (heritage (g .tree))) + (length (itselfIf (classIsEffect (g .tree)) (g .tree)) + (length (concatMap (listedAs st Key) (elements (g .tree))) + length (concatMap (listedAs st Static) (elements (g .tree)))))) < room
+        → pos + (length (effectsOf st (heritage (g .tree))) + (length (itselfIf (classIsEffect (g .tree)) (g .tree)) + (length (concatMap (listedAs st (of Key)) (elements (g .tree))) + length (concatMap (listedAs st (of Static)) (elements (g .tree)))))) < room
     class-length g =
         let t = g .tree in
-        let keys = concatMap (listedAs st Key) (elements t) in
-        let statics = concatMap (listedAs st Static) (elements t) in
+        let keys = concatMap (listedAs st (of Key)) (elements t) in
+        let statics = concatMap (listedAs st (of Static)) (elements t) in
         omega (
           arith,
           g .fits,
@@ -78,34 +78,37 @@ module _ {s : List ℕ} {at size depth : ℕ} (st : Settings) (ek : headAt s at 
       heritage-wrote : (t : Tree) → Input s at size depth (one t) → Wrote old mid pos next (effectsOf st (heritage t))
       heritage-wrote t i = wrote-as (a .by (class-split t i .first) (class-split t i .first-in)) (heritage-list t i)
 
-      pub class-itself : {room : ℕ} → GivenTree s at size depth st InOrder pos room → GivenEntry s at 0 next room
-      class-itself g = given-entry (input-node (g .input)) (omega arith) (omega (arith, class-length g, heritage-wrote (g .tree) (g .input) .ends))
+      pub class-itself : {room : ℕ} → GivenTree s at size depth st InOrder pos room → GivenEntry s at when 0 next room
+      class-itself g =
+          let t = g .tree in
+          let e : length (itselfIf when t) ≡ length (itselfIf (classIsEffect t) t) = rw (p .by t (input-node (g .input))) in
+          entry-itself (input-node (g .input)) when (omega (arith, e, class-length g, heritage-wrote (g .tree) (g .input) .ends))
 
       module _ {mid′ : List ℕ} {next′ : ℕ} (w : Wrote mid mid′ next next′ (keepIf when (effectAt s at 0))) where
         itself-wrote : (t : Tree) → Input s at size depth (one t) → Wrote mid mid′ next next′ (itselfIf (classIsEffect t) t)
         itself-wrote t i = wrote-as (wrote-itself (input-node i) when w) (ap (λ (y : Bool). itselfIf y t) (p .by t (input-node i)))
 
-        pub keys-given : {room : ℕ} → GivenTree s at size depth st InOrder pos room → GivenChildren s (at + 1 + k) (size - 1 - k) (depth - 1) st Key next′ room
+        pub keys-given : {room : ℕ} → GivenTree s at size depth st InOrder pos room → GivenChildren s (at + 1 + k) (size - 1 - k) (depth - 1) st (of Key) next′ room
         keys-given g =
             let t = g .tree in
             let i = g .input in
             let q = class-split t i in
-            record { forest = q .rest; input = q .rest-in; fits = rw (elements-list Key t i) (omega (arith, class-length g, heritage-wrote t i .ends, itself-wrote t i .ends)) }
+            record { forest = q .rest; input = q .rest-in; fits = rw (elements-list (of Key) t i) (omega (arith, class-length g, heritage-wrote t i .ends, itself-wrote t i .ends)) }
 
-        module _ {mid″ : List ℕ} {next″ : ℕ} (b : ListedChildren s (at + 1 + k) (size - 1 - k) (depth - 1) st Key mid′ mid″ next′ next″) where
-          keys-wrote : (t : Tree) → Input s at size depth (one t) → Wrote mid′ mid″ next′ next″ (concatMap (listedAs st Key) (elements t))
-          keys-wrote t i = wrote-as (b .by (class-split t i .rest) (class-split t i .rest-in)) (elements-list Key t i)
+        module _ {mid″ : List ℕ} {next″ : ℕ} (b : ListedChildren s (at + 1 + k) (size - 1 - k) (depth - 1) st (of Key) mid′ mid″ next′ next″) where
+          keys-wrote : (t : Tree) → Input s at size depth (one t) → Wrote mid′ mid″ next′ next″ (concatMap (listedAs st (of Key)) (elements t))
+          keys-wrote t i = wrote-as (b .by (class-split t i .rest) (class-split t i .rest-in)) (elements-list (of Key) t i)
 
-          pub statics-given : {room : ℕ} → GivenTree s at size depth st InOrder pos room → GivenChildren s (at + 1 + k) (size - 1 - k) (depth - 1) st Static next″ room
+          pub statics-given : {room : ℕ} → GivenTree s at size depth st InOrder pos room → GivenChildren s (at + 1 + k) (size - 1 - k) (depth - 1) st (of Static) next″ room
           statics-given g =
               let t = g .tree in
               let i = g .input in
               let q = class-split t i in
-              record { forest = q .rest; input = q .rest-in; fits = rw (elements-list Static t i) (omega (arith, class-length g, heritage-wrote t i .ends, itself-wrote t i .ends, keys-wrote t i .ends)) }
+              record { forest = q .rest; input = q .rest-in; fits = rw (elements-list (of Static) t i) (omega (arith, class-length g, heritage-wrote t i .ends, itself-wrote t i .ends, keys-wrote t i .ends)) }
 
-          pub class-done : {new : List ℕ} {r : ℕ} → ListedChildren s (at + 1 + k) (size - 1 - k) (depth - 1) st Static mid″ new next″ r → ListedTree s at size depth st InOrder old new pos r
+          pub class-done : {new : List ℕ} {r : ℕ} → ListedChildren s (at + 1 + k) (size - 1 - k) (depth - 1) st (of Static) mid″ new next″ r → ListedTree s at size depth st InOrder old new pos r
           class-done c = record {
             by = λ t i.
-                wrote-as (wrote-both (heritage-wrote t i) (wrote-both (itself-wrote t i) (wrote-both (keys-wrote t i) (wrote-as (c .by (class-split t i .rest) (class-split t i .rest-in)) (elements-list Static t i)))))
+                wrote-as (wrote-both (heritage-wrote t i) (wrote-both (itself-wrote t i) (wrote-both (keys-wrote t i) (wrote-as (c .by (class-split t i .rest) (class-split t i .rest-in)) (elements-list (of Static) t i)))))
                 (sym (class-plan t i .is));
           }

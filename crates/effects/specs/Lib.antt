@@ -1,6 +1,7 @@
 pub mod Listing
 pub mod Entry
 pub mod Plan
+pub mod Passed
 pub mod Given
 pub mod Children
 pub mod Child

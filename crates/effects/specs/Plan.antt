@@ -3,10 +3,9 @@ use mathlib.Core.Path.{_≡_, refl, sym, ap, ap₂, _∙_}
 use mathlib.Core.Bool.{Bool, true, false, cond}
 use mathlib.Core.List.{List, [], _∷_, _++_, map, append-nil}
 use Prim.Native.Nat.{ℕ, _/_, _%_, _≤_}
-use native.Mathlib.Omega.{arith}
 use lib.Dec.{eqb, leb}
 use lib.ListN.{drop}
-use borrow.Author.Tests.{le-leb, ne-eqb, leb-true}
+use borrow.Author.Tests.{ne-eqb, leb-true}
 use Rattle.tree.specs.Tree.{Tree, trees, count}
 use Rattle.tree.specs.Children.{childCountOk, nodeOk}
 use Rattle.tree.specs.Stands.{node-parts}
@@ -22,11 +21,11 @@ use Rattle.rules.specs.Proofs.Effects.{own, coerced-is}
 use Rattle.readings.specs.Node.{Node}
 use Rattle.tree.specs.Kind as kind
 use Rattle.effects.specs.declared.plan.Plan.{Plan}
-use Rattle.effects.specs.declared.plan.Plan.the-variants.{Itself, Children, Coerced, Arguments, Addition, Class}
+use Rattle.effects.specs.declared.plan.Plan.the-variants.{Nothing, Children, Coerced, Arguments, Addition, Class}
 
 -- The effect list of a node by its plan.
 abbrev pub planned : Plan → Settings → Tree → List ℕ
-planned (Itself when) s t = itselfIf when t
+planned Nothing s t = []
 planned (Children when) s t = effectsOf s (trees (t .kids)) ++ itselfIf when t
 planned Coerced s t = concatMap (λ c. effects s c ++ coercion c) (trees (t .kids))
 planned Arguments s t = effectsOf s (drop 1 (trees (t .kids)))
@@ -38,7 +37,7 @@ planned Class s t =
 
 -- What a plan counts on of the node.
 abbrev pub HasChildren : Plan → Tree → Type 0
-HasChildren (Itself when) t = Unit {0}
+HasChildren Nothing t = Unit {0}
 HasChildren (Children when) t = Unit {0}
 HasChildren Coerced t = Unit {0}
 HasChildren Arguments t = 1 ≤ count (t .kids)
@@ -92,8 +91,11 @@ module _ (s : Settings) (t : Tree) where
       → {b : Bool} → b ≡ flagged t → Planned s t (Children b)
   after-children k e f x = record { is = own s t k e ∙ f ∙ ap₂ (λ (l : List ℕ) (y : Bool). l ++ itselfIf y t) (inOrder-is s ts) (sym x); has = tt }
 
+  only-children : (k : Handler) → handler (t .head) ≡ k → effectsBy k s t (map (evaluated s) ts) ≡ childrenInOrder (map (evaluated s) ts) → effects s t ≡ effectsOf s ts
+  only-children k e f = own s t k e ∙ f ∙ inOrder-is s ts
+
   in-order : (k : Handler) → handler (t .head) ≡ k → effectsBy k s t (map (evaluated s) ts) ≡ childrenInOrder (map (evaluated s) ts) → Planned s t (Children false)
-  in-order k e f = record { is = own s t k e ∙ f ∙ inOrder-is s ts ∙ sym (append-nil (effectsOf s ts)); has = tt }
+  in-order k e f = record { is = only-children k e f ∙ sym (append-nil (effectsOf s ts)); has = tt }
 
   arguments-is : childrenInOrder (drop 1 (map (evaluated s) ts)) ≡ effectsOf s (drop 1 ts)
   arguments-is = rw (drop-map (evaluated s)) (inOrder-is s (drop 1 ts))
@@ -111,14 +113,29 @@ module _ (s : Settings) (t : Tree) where
     unfolding handler
     leaf-is l = own s t Handler.leaf (rw (← ek, l))
 
-    -- This.
-    pub plan-this : k ≡ kind.this → {b : Bool} → b ≡ derived s → Planned s t (Itself b)
+    pub this-is : k ≡ kind.this → effects s t ≡ itselfIf (derived s) t
     unfolding handler
-    plan-this e d = record { is = own s t Handler.this (rw (sym ek ∙ e)) ∙ rw (← d); has = tt }
+    this-is e = own s t Handler.this (rw (sym ek ∙ e))
 
-    pub plan-elision : k ≡ kind.elision → Planned s t (Itself false)
+    pub elision-is : k ≡ kind.elision → effects s t ≡ []
     unfolding handler
-    plan-elision e = record { is = own s t Handler.elision (rw (sym ek ∙ e)); has = tt }
+    elision-is e = own s t Handler.elision (rw (sym ek ∙ e))
+
+    pub array-is : k ≡ kind.array → effects s t ≡ effectsOf s ts
+    unfolding handler
+    array-is e = only-children Handler.array (rw (sym ek ∙ e)) refl
+
+    pub object-is : k ≡ kind.object → effects s t ≡ effectsOf s ts
+    unfolding handler
+    object-is e = only-children Handler.object (rw (sym ek ∙ e)) refl
+
+    pub property-is : k ≡ kind.property → effects s t ≡ effectsOf s ts
+    unfolding handler
+    property-is e = only-children Handler.property (rw (sym ek ∙ e)) refl
+
+    pub sequence-is : k ≡ kind.sequence → effects s t ≡ effectsOf s ts
+    unfolding handler
+    sequence-is e = only-children Handler.sequence (rw (sym ek ∙ e)) refl
 
     pub plan-spread : k ≡ kind.spread → {b : Bool} → b ≡ flagged t → Planned s t (Children b)
     unfolding handler
@@ -142,7 +159,7 @@ module _ (s : Settings) (t : Tree) where
       unfolding handler
       plan-not x = in-order Handler.voidOrNot (unary-handled Handler.voidOrNot (rw x)) refl
 
-      pub plan-typeof-identifier : u ≡ 3 → ofIdentifier t ≡ true → Planned s t (Itself false)
+      pub plan-typeof-identifier : u ≡ 3 → ofIdentifier t ≡ true → Planned s t Nothing
       unfolding handler
       plan-typeof-identifier x o = record { is = own s t Handler.typeof (unary-handled Handler.typeof (rw x)) ∙ rw o; has = tt }
 
@@ -201,7 +218,7 @@ module _ (s : Settings) (t : Tree) where
     unfolding handler
     plan-class e = record { is = own s t Handler.class (rw (sym ek ∙ e)) ∙ class-parts; has = sym ek ∙ e }
 
-    -- Arrays, objects, properties, sequences and the rest.
+    -- What is neither passed nor told apart above.
     pub plan-other : kind.isLeaf k ≡ false → (k ≡ kind.this → ⊥) → (k ≡ kind.elision → ⊥) → (k ≡ kind.spread → ⊥) → (k ≡ kind.template → ⊥)
         → (k ≡ kind.unary → ⊥) → (k ≡ kind.binary → ⊥) → (k ≡ kind.call → ⊥) → (k ≡ kind.new → ⊥) → (k ≡ kind.class → ⊥) → Planned s t (Children false)
     unfolding handler
@@ -226,10 +243,3 @@ module _ (s : Settings) (t : Tree) where
 pub derived-is : (n : ℕ) → eqb (n / 4 % 2) 1 ≡ derived (record { byte = n })
 unfolding derived
 derived-is n = refl
-
--- Whether a kind is a leaf's, as the code tests it.
-pub leaf-zero : {k n : ℕ} → k ≡ 0 → k ≡ n → false ≡ kind.isLeaf n
-leaf-zero z e = rw (sym e ∙ z)
-
-pub leaf-some : {k n : ℕ} → (k ≡ 0 → ⊥) → k ≡ n → leb k 5 ≡ kind.isLeaf n
-leaf-some {k} z e = rw (← e, le-leb 1 k (omega arith))

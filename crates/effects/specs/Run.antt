@@ -21,9 +21,8 @@ use Rattle.file.specs.Answer.{verdict, verdict-refused, verdict-accepted}
 use Rattle.rules.specs.Effects.{effects}
 use Rattle.rules.specs.Theorems.{few-effects}
 use Rattle.readings.specs.Node.{settingsWith}
-use Rattle.effects.specs.Listing.{GivenTree, ListedTree}
+use Rattle.effects.specs.Listing.{InOrder, GivenTree, ListedTree}
 use Rattle.effects.specs.Answer.{number, effectList, Answers}
-use Rattle.effects.specs.declared.listing.Part.the-variants.{InOrder}
 use Rattle.effects.specs.declared.Listed.the-variants.{Refused, Count}
 use Rattle.tree.specs.Kind as kind
 use Rattle.readings.specs.Input.{Input}

@@ -21,10 +21,10 @@ use Rattle.tree.specs.Kind as kind
 use Rattle.readings.specs.Split.{some-size}
 use Rattle.readings.specs.Addition.{SidesAt, sides-at}
 use Rattle.effects.specs.Plan.{Plans}
-use Rattle.effects.specs.declared.listing.Part.the-variants.{InOrder}
 use Rattle.effects.specs.declared.plan.Plan.the-variants.{Addition}
-use Rattle.effects.specs.Listing.{Wrote, GivenTree, ListedTree, wrote-both, wrote-as}
-use Rattle.effects.specs.Entry.{effectAt, GivenEntry, given-entry, wrote-itself, wrote-coercion}
+use Rattle.stated.specs.Wrote.{Wrote, wrote-both, wrote-as}
+use Rattle.effects.specs.Listing.{InOrder, GivenTree, ListedTree}
+use Rattle.effects.specs.Entry.{effectAt, GivenEntry, entry-itself, entry-coercion, wrote-itself, wrote-coercion}
 use Rattle.effects.specs.Expression.{plan-at}
 use Rattle.readings.specs.Input.{Input, input-node}
 
@@ -127,26 +127,22 @@ module _ {s : List ℕ} (at size depth : ℕ) (st : Settings) (ek : headAt s at 
     sides-wrote t i w =
         wrote-as (wrote-both (listed-left .listed .by (sum-of t i .l) (sum-of t i .left-in)) (wrote-both (listed-right .by (sum-of t i .r) (sum-of t i .right-in)) w)) (sym (effects-sides st t (sum-of t i .l) (sum-of t i .r) (sum-of t i .sides)))
 
-    tail-fits : {room : ℕ} (g : GivenTree s at size depth st InOrder pos room) → next′ < room
+    tail-fits : {room : ℕ} (g : GivenTree s at size depth st InOrder pos room) → next′ + length (additionEffect (g .tree) (S g .l) (S g .r)) < room
     tail-fits g =
         omega (arith, sum-length g, listed-left .listed .by (S g .l) (S g .left-in) .ends, listed-right .by (S g .r) (S g .right-in) .ends)
 
     -- Each of the three that may be listed behind the sides.
-    pub right-coercion : {room : ℕ} → GivenTree s at size depth st InOrder pos room → GivenEntry s (at + 1 + z) 1 next′ room
-    right-coercion g = given-entry (right-node (g .tree) (g .input)) (omega arith) (tail-fits g)
-
-    pub left-coercion : {room : ℕ} → GivenTree s at size depth st InOrder pos room → GivenEntry s (at + 1) 1 next′ room
-    left-coercion g = given-entry (left-node (g .tree) (g .input)) (omega arith) (tail-fits g)
-
-    pub sum-itself : {room : ℕ} → GivenTree s at size depth st InOrder pos room → GivenEntry s at 0 next′ room
-    sum-itself g = given-entry (input-node (g .input)) (omega arith) (tail-fits g)
-
     module _ (when : Bool) where
       -- a string on the left
       module _ (v : string ≡ true) (p : Tells s (at + 1 + z) possibleSymbol when) where
         on-right : (t : Tree) (i : Input s at size depth (one t)) → additionEffect t (sum-of t i .l) (sum-of t i .r) ≡ coercion (sum-of t i .r)
         unfolding additionEffect
         on-right t i = rw (sym (left-string t i) ∙ v)
+
+        pub right-coercion : {room : ℕ} → GivenTree s at size depth st InOrder pos room → GivenEntry s (at + 1 + z) when 1 next′ room
+        right-coercion g =
+            let n = right-node (g .tree) (g .input) in
+            entry-coercion n when (p .by (S g .r) n) (rw (on-right (g .tree) (g .input)) at (tail-fits g))
 
         pub right-done : {new : List ℕ} {r : ℕ} → Wrote mid′ new next′ r (keepIf when (effectAt s (at + 1 + z) 1)) → ListedSide s at size depth st old new pos r true
         right-done w = record {
@@ -161,6 +157,11 @@ module _ {s : List ℕ} (at size depth : ℕ) (st : Settings) (ek : headAt s at 
           unfolding additionEffect
           on-left t i = rw (sym (left-string t i) ∙ v, sym (q .by (sum-of t i .r) (right-node t i)) ∙ x)
 
+          pub left-coercion : {room : ℕ} → GivenTree s at size depth st InOrder pos room → GivenEntry s (at + 1) when 1 next′ room
+          left-coercion g =
+              let n = left-node (g .tree) (g .input) in
+              entry-coercion n when (p .by (S g .l) n) (rw (on-left (g .tree) (g .input)) at (tail-fits g))
+
           pub left-done : {new : List ℕ} {r : ℕ} → Wrote mid′ new next′ r (keepIf when (effectAt s (at + 1) 1)) → ListedSide s at size depth st old new pos r true
           left-done w = record {
             listed = record { by = λ t i. sides-wrote t i (wrote-as (wrote-coercion (left-node t i) when (p .by (sum-of t i .l) (left-node t i)) w) (sym (on-left t i))) };
@@ -172,6 +173,11 @@ module _ {s : List ℕ} (at size depth : ℕ) (st : Settings) (ek : headAt s at 
           on-itself : (t : Tree) (i : Input s at size depth (one t)) → additionEffect t (sum-of t i .l) (sum-of t i .r) ≡ itselfIf (flagged t) t
           unfolding additionEffect
           on-itself t i = rw (sym (left-string t i) ∙ v, sym (q .by (sum-of t i .r) (right-node t i)) ∙ x)
+
+          pub sum-itself : {room : ℕ} → GivenTree s at size depth st InOrder pos room → GivenEntry s at when 0 next′ room
+          sum-itself g =
+              let n = input-node (g .input) in
+              entry-itself n when (rw (p .by (g .tree) n) (rw (on-itself (g .tree) (g .input)) at (tail-fits g)))
 
           pub sum-done : {new : List ℕ} {r : ℕ} → Wrote mid′ new next′ r (keepIf when (effectAt s at 0)) → ListedSide s at size depth st old new pos r false
           sum-done w = record {

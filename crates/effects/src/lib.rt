@@ -25,7 +25,7 @@ pub fn list_effects(src: &[u8], entries: &mut [u64]) -> Listed
                 return Listed::Refused(10);
             }
             let depth = file::LIST_EFFECTS_DEPTH;
-            let next = listing::list_expr(src, 0, count, depth, settings, entries, 0);
+            let next = listing::list_children(src, 0, count, depth, settings, entries, 0);
             Listed::Count(next)
         }
     }

@@ -3,19 +3,16 @@
 use crate::entry;
 use crate::plan;
 use crate::plan::Plan;
-ghost use mathlib.Core.Path.{_≡_};
 ghost use lib.ListN.{length};
-ghost use Rattle.rules.specs.Effects.{effects};
 ghost use Rattle.readings.specs.Node.{settingsWith};
-ghost use Rattle.effects.specs.Listing.{listedAs, GivenChildren, ListedChildren, GivenTree, ListedTree};
-ghost use Rattle.effects.specs.Expression.{GivenNode};
+ghost use Rattle.effects.specs.Listing.{InOrder, of, GivenChildren, ListedChildren, GivenTree, ListedTree};
+ghost use Rattle.effects.specs.Expression.{GivenExpression};
 ghost use Rattle.effects.specs.Sum.{ListedSide, GivenSum};
 ghost use Rattle.effects.specs.Class.{GivenClass};
 
-// What of a child is listed.
+// What of a child is listed, where it is not the child alone.
 pub enum Part {
-    InOrder,
-    // followed by its coercion
+    // the child, followed by its coercion
     Coerced,
     // of a class element, its computed key
     Key,
@@ -29,8 +26,38 @@ pub struct Side {
     pub string: bool,
 }
 
-// The trees from record at on, in size records.
-fn list_children(
+// The trees from record at on, in size records, in order. The walk goes into a node that is passed without a call.
+pub fn list_children(
+    src: &[u8],
+    at: usize,
+    size: usize,
+    depth: usize,
+    settings: u8,
+    out: &mut [u64],
+    pos: usize,
+) -> usize
+    requires { ⌜ GivenChildren (now src) at size depth (settingsWith settings) InOrder pos (length (now out)) ⌝ }
+    ensures { λ r. ⌜ ListedChildren (now (src .entry)) at size depth (settingsWith settings) InOrder (now (out .entry)) (now (out .exit)) pos r ⌝ }
+{
+    let end = at + size;
+    let mut p = at;
+    let mut next = pos;
+    while p < end {
+        if plan::is_passed(src, p) {
+            let itself = plan::passed_itself(src, p, settings);
+            next = entry::list_if(src, p, itself, 0, out, next);
+            p += 1;
+        } else {
+            let subtree = fields::subtree_at(src, p);
+            next = list_expr(src, p, subtree, depth, settings, out, next);
+            p += subtree;
+        }
+    }
+    next
+}
+
+// A part of each of the trees from record at on, in size records.
+fn list_parts(
     src: &[u8],
     at: usize,
     size: usize,
@@ -40,22 +67,22 @@ fn list_children(
     out: &mut [u64],
     pos: usize,
 ) -> usize
-    requires { ⌜ GivenChildren (now src) at size depth (settingsWith settings) part pos (length (now out)) ⌝ }
-    ensures { λ r. ⌜ ListedChildren (now (src .entry)) at size depth (settingsWith settings) part (now (out .entry)) (now (out .exit)) pos r ⌝ }
+    requires { ⌜ GivenChildren (now src) at size depth (settingsWith settings) (of part) pos (length (now out)) ⌝ }
+    ensures { λ r. ⌜ ListedChildren (now (src .entry)) at size depth (settingsWith settings) (of part) (now (out .entry)) (now (out .exit)) pos r ⌝ }
 {
     let end = at + size;
     let mut p = at;
     let mut next = pos;
     while p < end {
         let subtree = fields::subtree_at(src, p);
-        next = list_child(src, p, subtree, part, depth, settings, out, next);
+        next = list_part(src, p, subtree, part, depth, settings, out, next);
         p += subtree;
     }
     next
 }
 
-// One child, by the part of it that is asked for.
-fn list_child(
+// A part of one tree.
+fn list_part(
     src: &[u8],
     at: usize,
     size: usize,
@@ -65,13 +92,12 @@ fn list_child(
     out: &mut [u64],
     pos: usize,
 ) -> usize
-    requires { ⌜ GivenTree (now src) at size depth (settingsWith settings) part pos (length (now out)) ⌝ }
-    ensures { λ r. ⌜ ListedTree (now (src .entry)) at size depth (settingsWith settings) part (now (out .entry)) (now (out .exit)) pos r ⌝ }
+    requires { ⌜ GivenTree (now src) at size depth (settingsWith settings) (of part) pos (length (now out)) ⌝ }
+    ensures { λ r. ⌜ ListedTree (now (src .entry)) at size depth (settingsWith settings) (of part) (now (out .entry)) (now (out .exit)) pos r ⌝ }
 {
     match part {
-        Part::InOrder => list_expr(src, at, size, depth, settings, out, pos),
         Part::Coerced => {
-            let next = list_expr(src, at, size, depth, settings, out, pos);
+            let next = list_children(src, at, size, depth, settings, out, pos);
             let symbol = readings::possible_symbol_at(src, at);
             entry::list_if(src, at, symbol, 1, out, next)
         }
@@ -79,7 +105,7 @@ fn list_child(
             let key = readings::first_size(src, at, fields::sub_at(src, at) / 16 % 2);
             let first = at + 1;
             let below = depth - 1;
-            list_children(src, first, key, Part::InOrder, below, settings, out, pos)
+            list_children(src, first, key, below, settings, out, pos)
         }
         Part::Static => list_static(src, at, size, depth, settings, out, pos),
     }
@@ -95,8 +121,8 @@ fn list_static(
     out: &mut [u64],
     pos: usize,
 ) -> usize
-    requires { ⌜ GivenTree (now src) at size depth (settingsWith settings) Part.Static pos (length (now out)) ⌝ }
-    ensures { λ r. ⌜ ListedTree (now (src .entry)) at size depth (settingsWith settings) Part.Static (now (out .entry)) (now (out .exit)) pos r ⌝ }
+    requires { ⌜ GivenTree (now src) at size depth (settingsWith settings) (of Part.Static) pos (length (now out)) ⌝ }
+    ensures { λ r. ⌜ ListedTree (now (src .entry)) at size depth (settingsWith settings) (of Part.Static) (now (out .entry)) (now (out .exit)) pos r ⌝ }
 {
     let block = readings::nonempty_static_block_at(src, at);
     if readings::has_static_value_at(src, at) {
@@ -104,14 +130,14 @@ fn list_static(
         let value = at + 1 + key;
         let left = size - 1 - key;
         let below = depth - 1;
-        let next = list_children(src, value, left, Part::InOrder, below, settings, out, pos);
+        let next = list_children(src, value, left, below, settings, out, pos);
         return entry::list_if(src, at, block, 0, out, next);
     }
     entry::list_if(src, at, block, 0, out, pos)
 }
 
-// An expression. A leaf is listed at once: it needs no plan.
-pub fn list_expr(
+// An expression that is not passed, by its plan.
+fn list_expr(
     src: &[u8],
     at: usize,
     size: usize,
@@ -120,45 +146,25 @@ pub fn list_expr(
     out: &mut [u64],
     pos: usize,
 ) -> usize
-    requires { ⌜ GivenTree (now src) at size depth (settingsWith settings) Part.InOrder pos (length (now out)) ⌝ }
-    ensures { λ r. ⌜ ListedTree (now (src .entry)) at size depth (settingsWith settings) Part.InOrder (now (out .entry)) (now (out .exit)) pos r ⌝ }
-{
-    if plan::is_leaf(src, at) {
-        let flagged = readings::flagged_at(src, at);
-        return entry::list_if(src, at, flagged, 0, out, pos);
-    }
-    list_node(src, at, size, depth, settings, out, pos)
-}
-
-// An expression that is no leaf, by its plan.
-fn list_node(
-    src: &[u8],
-    at: usize,
-    size: usize,
-    depth: usize,
-    settings: u8,
-    out: &mut [u64],
-    pos: usize,
-) -> usize
-    requires { ⌜ GivenNode (now src) at size depth (settingsWith settings) pos (length (now out)) ⌝ }
-    ensures { λ r. ⌜ ListedTree (now (src .entry)) at size depth (settingsWith settings) Part.InOrder (now (out .entry)) (now (out .exit)) pos r ⌝ }
+    requires { ⌜ GivenExpression (now src) at size depth (settingsWith settings) pos (length (now out)) ⌝ }
+    ensures { λ r. ⌜ ListedTree (now (src .entry)) at size depth (settingsWith settings) InOrder (now (out .entry)) (now (out .exit)) pos r ⌝ }
 {
     let plan = plan::plan_of(src, at, settings);
     let first = at + 1;
     let rest = size - 1;
     let below = depth - 1;
     match plan {
-        Plan::Itself(when) => entry::list_if(src, at, when, 0, out, pos),
+        Plan::Nothing => pos,
         Plan::Children(when) => {
-            let next = list_children(src, first, rest, Part::InOrder, below, settings, out, pos);
+            let next = list_children(src, first, rest, below, settings, out, pos);
             entry::list_if(src, at, when, 0, out, next)
         }
-        Plan::Coerced => list_children(src, first, rest, Part::Coerced, below, settings, out, pos),
+        Plan::Coerced => list_parts(src, first, rest, Part::Coerced, below, settings, out, pos),
         Plan::Arguments => {
             let callee = readings::first_size(src, at, 1);
             let start = first + callee;
             let left = rest - callee;
-            list_children(src, start, left, Part::InOrder, below, settings, out, pos)
+            list_children(src, start, left, below, settings, out, pos)
         }
         Plan::Addition => {
             let sum = list_addition(src, at, size, depth, settings, out, pos);
@@ -178,13 +184,13 @@ fn list_left(
     out: &mut [u64],
     pos: usize,
 ) -> Side
-    requires { ⌜ GivenTree (now src) at size depth (settingsWith settings) Part.InOrder pos (length (now out)) ⌝ }
+    requires { ⌜ GivenTree (now src) at size depth (settingsWith settings) InOrder pos (length (now out)) ⌝ }
     ensures { λ r. ⌜ ListedSide (now (src .entry)) at size depth (settingsWith settings) (now (out .entry)) (now (out .exit)) pos (r .next) (r .string) ⌝ }
 {
     if readings::is_addition(src, at) {
         return list_addition(src, at, size, depth, settings, out, pos);
     }
-    let next = list_expr(src, at, size, depth, settings, out, pos);
+    let next = list_children(src, at, size, depth, settings, out, pos);
     let string = readings::string_fact_at(src, at);
     Side { next, string }
 }
@@ -201,13 +207,14 @@ fn list_addition(
     requires { ⌜ GivenSum (now src) at size depth (settingsWith settings) pos (length (now out)) ⌝ }
     ensures { λ r. ⌜ ListedSide (now (src .entry)) at size depth (settingsWith settings) (now (out .entry)) (now (out .exit)) pos (r .next) (r .string) ⌝ }
 {
+    let below = depth - 1;
     let left_size = fields::subtree_at(src, at + 1);
-    let left = list_left(src, at + 1, left_size, depth - 1, settings, out, pos);
-    let left_next = left.next;
+    let left = list_left(src, at + 1, left_size, below, settings, out, pos);
+    let mid = left.next;
     let left_string = left.string;
     let right = at + 1 + left_size;
     let right_size = fields::subtree_at(src, right);
-    let sides = list_expr(src, right, right_size, depth - 1, settings, out, left_next);
+    let sides = list_children(src, right, right_size, below, settings, out, mid);
     if left_string {
         let symbol = readings::possible_symbol_at(src, right);
         let next = entry::list_if(src, right, symbol, 1, out, sides);
@@ -237,16 +244,16 @@ fn list_class(
     pos: usize,
 ) -> usize
     requires { ⌜ GivenClass (now src) at size depth (settingsWith settings) pos (length (now out)) ⌝ }
-    ensures { λ r. ⌜ ListedTree (now (src .entry)) at size depth (settingsWith settings) Part.InOrder (now (out .entry)) (now (out .exit)) pos r ⌝ }
+    ensures { λ r. ⌜ ListedTree (now (src .entry)) at size depth (settingsWith settings) InOrder (now (out .entry)) (now (out .exit)) pos r ⌝ }
 {
     let base = readings::first_size(src, at, fields::sub_at(src, at) / 2 % 2);
     let first = at + 1;
     let below = depth - 1;
-    let next = list_children(src, first, base, Part::InOrder, below, settings, out, pos);
+    let next = list_children(src, first, base, below, settings, out, pos);
     let is_effect = readings::class_is_effect(src, at);
     let own = entry::list_if(src, at, is_effect, 0, out, next);
     let from = first + base;
     let left = size - 1 - base;
-    let keys = list_children(src, from, left, Part::Key, below, settings, out, own);
-    list_children(src, from, left, Part::Static, below, settings, out, keys)
+    let keys = list_parts(src, from, left, Part::Key, below, settings, out, own);
+    list_parts(src, from, left, Part::Static, below, settings, out, keys)
 }

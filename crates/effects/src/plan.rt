@@ -1,17 +1,17 @@
 // What the effect list of a node is made of, by its kind, its facts and the settings.
 use fields::kind;
 ghost use mathlib.Core.Path.{_≡_};
-ghost use mathlib.Core.Bool.{false};
+ghost use mathlib.Core.Bool.{true, false};
 ghost use Prim.Native.Nat.{_+_, _≤_};
 ghost use lib.ListN.{length};
 ghost use Rattle.tree.specs.Fields.{start, headAt};
 ghost use Rattle.readings.specs.Node.{SomeNode, settingsWith};
 ghost use Rattle.effects.specs.Plan.{Plans, PlansOf};
-ghost use Rattle.tree.specs.Kind.{unary, binary, isLeaf};
+ghost use Rattle.effects.specs.Passed.{isPassed, Passes};
+ghost use Rattle.tree.specs.Kind.{unary, binary};
 
 pub enum Plan {
-    // itself, where the value says so, and no child
-    Itself(bool),
+    Nothing,
     // the children, and then itself where the value says so
     Children(bool),
     // each child followed by its coercion
@@ -35,7 +35,7 @@ fn plan_unary(src: &[u8], at: usize, settings: u8) -> Plan
     }
     if sub == 3 {
         if readings::of_identifier(src, at) {
-            return Plan::Itself(false);
+            return Plan::Nothing;
         }
         return Plan::Children(false);
     }
@@ -56,26 +56,51 @@ fn plan_binary(src: &[u8], at: usize, settings: u8) -> Plan
     Plan::Children(readings::flagged_at(src, at))
 }
 
-// Whether record at is a leaf.
-pub fn is_leaf(src: &[u8], at: usize) -> bool
+// A bit for each kind whose own entry, if there is one, comes before what is listed under it: leaves, this, elision, array, object,
+// property and sequence. Such a node is passed: the walk goes on with the next record, its first child if it has any.
+const PASSED: usize = 0b10_1101_1111_1110;
+
+// Of these, what is listed itself where it is flagged, and where the setting says so.
+const LEAVES: usize = 0b11_1110;
+
+const THIS: usize = 0b100_0000;
+
+// Whether record at is passed.
+pub fn is_passed(src: &[u8], at: usize) -> bool
     requires { ⌜ start (at + 1) ≤ length (now src) ⌝ }
-    ensures { λ r. ⌜ r ≡ isLeaf (headAt (now (src .entry)) at .kind) ⌝ }
+    ensures { λ r. ⌜ r ≡ isPassed (headAt (now (src .entry)) at .kind) ⌝ }
 {
     let kind = fields::kind_at(src, at);
-    if kind == 0 {
+    if 31 < kind {
         return false;
     }
-    kind <= kind::OTHER_LEAF
+    (PASSED >> kind) % 2 == 1
 }
 
-// The plan of a node that is no leaf.
+// Whether a node that is passed is listed itself. By numbers rather than a test by kind, which would often be mispredicted.
+pub fn passed_itself(src: &[u8], at: usize, settings: u8) -> bool
+    requires { ⌜ (start (at + 1) ≤ length (now src)) × (isPassed (headAt (now src) at .kind) ≡ true) ⌝ }
+    ensures { λ r. ⌜ Passes (now (src .entry)) at (settingsWith settings) r ⌝ }
+{
+    let flagged = if readings::flagged_at(src, at) {
+        LEAVES
+    } else {
+        0
+    };
+    let kinds = if settings / 4 % 2 == 1 {
+        flagged + THIS
+    } else {
+        flagged
+    };
+    (kinds >> fields::kind_at(src, at)) % 2 == 1
+}
+
+// The plan of a node that is not passed.
 pub fn plan_of(src: &[u8], at: usize, settings: u8) -> Plan
-    requires { ⌜ SomeNode (now src) at × (isLeaf (headAt (now src) at .kind) ≡ false) ⌝ }
+    requires { ⌜ SomeNode (now src) at × (isPassed (headAt (now src) at .kind) ≡ false) ⌝ }
     ensures { λ r. ⌜ Plans (now (src .entry)) at (settingsWith settings) r ⌝ }
 {
     match fields::kind_at(src, at) {
-        kind::THIS => Plan::Itself(settings / 4 % 2 == 1),
-        kind::ELISION => Plan::Itself(false),
         kind::SPREAD => Plan::Children(readings::flagged_at(src, at)),
         kind::TEMPLATE => Plan::Coerced,
         kind::UNARY => plan_unary(src, at, settings),

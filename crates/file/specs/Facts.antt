@@ -1,9 +1,11 @@
 -- Each permitted set of fact bits is one less than a power of two, so a byte has no other bit exactly if it is at most that number.
 use mathlib.Core.Path.{_≡_, refl, sym}
 use mathlib.Core.Bool.{Bool, true, false, cond, not, _||_}
-use Prim.Native.Nat.{ℕ, _<_, _≤_}
+use mathlib.Core.List.{List, [], _∷_}
+use Prim.Native.Nat.{ℕ, _/_, _%_, _^_, _<_, _≤_}
+use lib.ListN.{getD}
 use lib.Dec.{eqb, leb}
-use borrow.Author.Tests.{le-leb, lt-leb, ne-eqb}
+use borrow.Author.Tests.{le-leb, lt-leb, ne-eqb, eqb-true}
 use Rattle.tree.specs.Tree.{Head}
 use Rattle.tree.specs.Below.{allBelow, all-at}
 use Rattle.tree.specs.Record.{allowedFacts, bitsWithin, pairsOk, literalOk, factsOk}
@@ -16,6 +18,25 @@ pub agree-same : (a b : Bool) → agree a b ≡ true → a ≡ b
 agree-same true b e = sym e
 agree-same false true e = e
 agree-same false false e = refl
+
+-- The table of permitted fact bits, as the code has it, is the rule at every kind: one test, computed over the whole table.
+abbrev pub allowedTable : List ℕ
+allowedTable = 31 ∷ 31 ∷ 31 ∷ 31 ∷ 31 ∷ 31 ∷ 31 ∷ 31 ∷ 0 ∷ 1 ∷ 31 ∷ 0 ∷ 31 ∷ 31 ∷ 31 ∷ 31 ∷ 255 ∷ 127 ∷ 31 ∷ 0 ∷ 31 ∷ 31 ∷ 31 ∷ []
+
+allowed-same : ℕ → Bool
+allowed-same k = eqb (getD allowedTable k 0) (allowedFacts k)
+
+pub allowed-at : (k : ℕ) → k < 23 → getD allowedTable k 0 ≡ allowedFacts k
+unfolding allowed-same allBelow allowedFacts
+allowed-at k l = eqb-true (getD allowedTable k 0) (allowedFacts k) (all-at allowed-same 23 refl k l)
+
+-- The number of permitted pairs is the rule at every byte: one test, computed over all of them.
+pairs-same : ℕ → Bool
+pairs-same f = agree (eqb (0b0000_0010_0111_0111 / 2 ^ (f / 2 % 16) % 2) 1) (pairsOk f)
+
+pub pairs-at : (f : ℕ) → f < 256 → eqb (0b0000_0010_0111_0111 / 2 ^ (f / 2 % 16) % 2) 1 ≡ pairsOk f
+unfolding pairs-same allBelow pairsOk
+pairs-at f l = agree-same (eqb (0b0000_0010_0111_0111 / 2 ^ (f / 2 % 16) % 2) 1) (pairsOk f) (all-at pairs-same 256 refl f l)
 
 -- At a set of bits for which the test over all bytes computes to true.
 within-at : (m : ℕ) → allBelow (λ f. agree (bitsWithin m f) (leb f m)) 256 ≡ true → (f : ℕ) → f < 256 → bitsWithin m f ≡ leb f m

@@ -1,14 +1,20 @@
--- Which parents take a child: an expression, or one of the four kinds that are none.
-use mathlib.Core.Path.{_≡_, refl, sym, _∙_}
-use mathlib.Core.Bool.{Bool, true, false, cond, not, _&&_, _||_, true≢false}
-use Prim.Native.Nat.{ℕ, _/_, _%_, _<_}
-use lib.Dec.{eqb}
-use borrow.Author.Tests.{ne-eqb, eqb-true}
+-- Which kinds a parent takes as children, as a number with a bit for each kind.
+use mathlib.Core.Path.{_≡_, refl, sym, ap, _∙_}
+use mathlib.Core.Logic.{⊎-elim}
+use mathlib.Core.List.{List}
+use mathlib.Core.Bool.{Bool, true, false, cond, not, _||_, true≢false}
+use Prim.Native.Nat.{ℕ, _/_, _%_, _^_, _<_, _≤_}
+use native.Mathlib.Omega.{arith}
+use lib.Dec.{eqb, ltb}
+use borrow.Author.Tests.{ltb-false, lt-ltb, le-ltb, ne-eqb}
 use Rattle.tree.specs.Tree.{Head}
-use Rattle.tree.specs.Below.{allBelow, all-at}
+use Rattle.tree.specs.Below.{allBelow, all-at, lt-or-le}
+use Rattle.tree.specs.Fields.{headAt}
 use Rattle.tree.specs.Children.{firstIsExpression, mayStand}
+use Rattle.tree.specs.Refusal.{childrenEnd}
 use Rattle.tree.specs.Kind as kind
 use Rattle.file.specs.Facts.{agree, agree-same}
+use Rattle.file.specs.Bounds.{expression-below, expression-beyond}
 
 -- A child by its place: the callee or the heritage, or any other.
 pub stand-later : (h : Head) (k : ℕ) → firstIsExpression h ≡ false → mayStand h true k ≡ mayStand h false k
@@ -33,69 +39,133 @@ stand-expression h first k e =
     none false false false true e = absurd (true≢false (sym e))
     none false false false false e = (refl, refl, refl, refl)
 
--- Which parents take an expression.
-module _ (h : Head) (k : ℕ) (ek : k ≡ h .kind) where
-  pub takes-none : (first : Bool) → k ≡ kind.object → mayStand h first kind.literal ≡ false
-  unfolding mayStand
-  takes-none true e = rw (sym ek ∙ e)
-  takes-none false e = rw (sym ek ∙ e)
+-- A bit for each kind; bit 31 is that of all kinds from 31 on.
+abbrev pub bitOf : ℕ → ℕ
+bitOf k = cond (ltb 31 k) 31 k
 
-  pub takes-heritage : (sub : ℕ) → sub ≡ h .sub → k ≡ kind.class → mayStand h true kind.literal ≡ eqb (sub / 2 % 2) 1
-  unfolding mayStand
-  takes-heritage sub es e = rw (sym ek ∙ e, ← es) (same (eqb (sub / 2 % 2) 1))
-    where
-      same : (b : Bool) → cond b true false ≡ b
-      same true = refl
-      same false = refl
+pub bit-low : (k : ℕ) → bitOf k ≤ 31
+bit-low k = go (ltb 31 k) refl
+  where
+    go : (b : Bool) → ltb 31 k ≡ b → cond b 31 k ≤ 31
+    go true e = omega arith
+    go false e = ltb-false 31 k e
 
-  pub takes-elements : k ≡ kind.class → mayStand h false kind.literal ≡ false
-  unfolding mayStand
-  takes-elements e = rw (sym ek ∙ e)
+unfoldable pub holds : ℕ → ℕ → Bool
+holds kinds k = eqb (kinds / 2 ^ bitOf k % 2) 1
 
-  pub takes-all : (first : Bool) → (k ≡ kind.object → ⊥) → (k ≡ kind.class → ⊥) → mayStand h first kind.literal ≡ true
-  unfolding mayStand
-  takes-all first o c =
-      rw (← ek, ne-eqb k kind.object o, ne-eqb k kind.class c)
-      (either (first && (eqb k kind.call || (eqb k kind.new || false))) (either (eqb k kind.array) (either (eqb k kind.call || eqb k kind.new) refl)))
-    where
-      either : (b : Bool) {x : Bool} → x ≡ true → cond b true x ≡ true
-      either true e = refl
-      either false e = e
+abbrev expressions : ℕ
+expressions = 0b1111_1111_1111_0111_1111_0100_1111_1111
 
--- Which parents take a kind that is no expression, not as callee or heritage: a test over every byte of a kind.
-abbrev pub takesSpread : ℕ → Bool
-takesSpread k = eqb k kind.array || (eqb k kind.object || (eqb k kind.call || eqb k kind.new))
+abbrev arguments : ℕ
+arguments = 0b1111_1111_1111_0111_1111_0110_1111_1111
+
+-- Those that a kind takes, but for a callee and a heritage.
+unfoldable pub kindsUnder : ℕ → ℕ
+kindsUnder k =
+    cond (eqb k kind.class) 0b1000_0000_0000_0000_0000
+    (cond (eqb k kind.new) arguments
+    (cond (eqb k kind.call) arguments
+    (cond (eqb k kind.object) 0b1010_0000_0000
+    (cond (eqb k kind.array) 0b1111_1111_1111_0111_1111_0111_1111_1111 expressions))))
+
+-- Those that it takes as the first child.
+unfoldable pub firstUnder : ℕ → ℕ → ℕ → ℕ
+firstUnder k sub kinds =
+    cond (eqb k kind.call) expressions
+    (cond (eqb k kind.new) expressions (cond (eqb k kind.class) (cond (eqb (sub / 2 % 2) 1) expressions kinds) kinds))
+
+-- The kinds that may stand under h.
+abbrev pub Permits : ℕ → Head → Bool → Type 0
+Permits kinds h first = (k : ℕ) → holds kinds k ≡ mayStand h first k
 
 abbrev ofKind : ℕ → Head
 ofKind k = record { kind = k; facts = 0; sub = 0; reserved = 0; text = 0; place = 0 }
 
-takes-by : (child : ℕ) (test : ℕ → Bool) → allBelow (λ k. agree (mayStand (ofKind k) false child) (test k)) 256 ≡ true
-    → (h : Head) (k : ℕ) → k ≡ h .kind → k < 256 → mayStand h false child ≡ test k
+-- One test, computed over the kinds below 32 of parent and child; beyond them no kind is told apart.
+permits-bit : ℕ → ℕ → Bool
+permits-bit k c = agree (holds (kindsUnder k) c) (mayStand (ofKind k) false c)
+
+permits-row : ℕ → Bool
+permits-row k = allBelow (permits-bit k) 32
+
+permits-table : allBelow permits-row 32 ≡ true
+unfolding permits-row permits-bit holds kindsUnder mayStand allBelow
+permits-table = refl
+
+permits-below : (k c : ℕ) → k < 32 → c < 32 → holds (kindsUnder k) c ≡ mayStand (ofKind k) false c
+unfolding permits-row permits-bit
+permits-below k c lk lc =
+    agree-same (holds (kindsUnder k) c) (mayStand (ofKind k) false c) (all-at (permits-bit k) 32 (all-at permits-row 32 permits-table k lk) c lc)
+
+holds-beyond : (kinds c : ℕ) → 31 < c → holds kinds c ≡ eqb (kinds / 2 ^ 31 % 2) 1
+unfolding holds
+holds-beyond kinds c l = rw (lt-ltb 31 c l)
+
+holds-below : (kinds c : ℕ) → c ≤ 31 → holds kinds c ≡ eqb (kinds / 2 ^ c % 2) 1
+unfolding holds
+holds-below kinds c l = rw (le-ltb 31 c l)
+
+-- A kind that is beyond them stands where 31 does, and as a parent it takes what 0 takes.
+stand-beyond : (h : Head) (c : ℕ) → 31 < c → mayStand h false c ≡ mayStand h false 31
+stand-beyond h c l = stand-expression h false c (expression-beyond c (omega arith)) ∙ sym (stand-expression h false 31 (expression-beyond 31 (omega arith)))
+
+under-beyond : (k : ℕ) → 31 < k → kindsUnder k ≡ kindsUnder 0
+unfolding kindsUnder
+under-beyond k l =
+    rw (ne-eqb k kind.class (λ e. omega arith), ne-eqb k kind.new (λ e. omega arith), ne-eqb k kind.call (λ e. omega arith), ne-eqb k kind.object (λ e. omega arith), ne-eqb k kind.array (λ e. omega arith))
+
+takes-beyond : (k c : ℕ) → 31 < k → mayStand (ofKind k) false c ≡ mayStand (ofKind 0) false c
 unfolding mayStand
-takes-by child test e h k ek l =
-    rw (← ek) (agree-same (mayStand (ofKind k) false child) (test k) (all-at (λ x. agree (mayStand (ofKind x) false child) (test x)) 256 e k l))
+takes-beyond k c l =
+    rw (ne-eqb k kind.class (λ e. omega arith), ne-eqb k kind.new (λ e. omega arith), ne-eqb k kind.call (λ e. omega arith), ne-eqb k kind.object (λ e. omega arith), ne-eqb k kind.array (λ e. omega arith))
 
-pub takes-elision : (h : Head) (k : ℕ) → k ≡ h .kind → k < 256 → mayStand h false kind.elision ≡ eqb k kind.array
-unfolding mayStand allBelow
-takes-elision = takes-by kind.elision (λ k. eqb k kind.array) refl
+permits-child : (k c : ℕ) → c < 32 → holds (kindsUnder k) c ≡ mayStand (ofKind k) false c
+permits-child k c l =
+    ⊎-elim (λ (b : k < 32). permits-below k c b l)
+    (λ (b : 32 ≤ k). ap (λ (n : ℕ). holds n c) (under-beyond k (omega arith)) ∙ permits-below 0 c (omega arith) l ∙ sym (takes-beyond k c (omega arith)))
+    (lt-or-le k 32)
 
-pub takes-property : (h : Head) (k : ℕ) → k ≡ h .kind → k < 256 → mayStand h false kind.property ≡ eqb k kind.object
-unfolding mayStand allBelow
-takes-property = takes-by kind.property (λ k. eqb k kind.object) refl
+permits-kind : (k : ℕ) → Permits (kindsUnder k) (ofKind k) false
+permits-kind k c =
+    ⊎-elim (λ (b : c < 32). permits-child k c b)
+    (λ (b : 32 ≤ c).
+    holds-beyond (kindsUnder k) c (omega arith) ∙ sym (holds-below (kindsUnder k) 31 (omega arith)) ∙ permits-child k 31 (omega arith) ∙ sym (stand-beyond (ofKind k) c (omega arith)))
+    (lt-or-le c 32)
 
-pub takes-element : (h : Head) (k : ℕ) → k ≡ h .kind → k < 256 → mayStand h false kind.element ≡ eqb k kind.class
-unfolding mayStand allBelow
-takes-element = takes-by kind.element (λ k. eqb k kind.class) refl
+pub permits-others : (h : Head) {k kinds : ℕ} → k ≡ h .kind → kinds ≡ kindsUnder k → Permits kinds h false
+unfolding mayStand
+permits-others h {k} ek es c = rw (es, ← ek) (permits-kind k c)
 
-pub takes-spread : (h : Head) (k : ℕ) → k ≡ h .kind → k < 256 → mayStand h false kind.spread ≡ takesSpread k
-unfolding mayStand allBelow
-takes-spread = takes-by kind.spread takesSpread refl
+expressions-hold : (c : ℕ) → holds expressions c ≡ kind.isExpression c
+expressions-hold c =
+    ⊎-elim (λ (b : c < 32). holds-below expressions c (omega arith) ∙ expression-below c b)
+    (λ (b : 32 ≤ c). holds-beyond expressions c (omega arith) ∙ sym (expression-beyond c (omega arith))) (lt-or-le c 32)
 
--- A kind that is no expression and none of three is the spread.
-pub is-spread : (k : ℕ) → kind.isExpression k ≡ false → (k ≡ kind.elision → ⊥) → (k ≡ kind.property → ⊥) → (k ≡ kind.element → ⊥) → k ≡ kind.spread
-is-spread k e a b c =
-    eqb-true k kind.spread (last (eqb k kind.spread) (rw (ne-eqb k kind.elision a, ne-eqb k kind.property b, ne-eqb k kind.element c) at e))
+pub permits-first : (h : Head) (kinds : ℕ) {k sub taken : ℕ} → k ≡ h .kind → sub ≡ h .sub → taken ≡ firstUnder k sub kinds → Permits kinds h false → Permits taken h true
+unfolding firstUnder
+permits-first h kinds ek es et others c =
+    rw (et, ek, es) (go (eqb (h .kind) kind.call) (eqb (h .kind) kind.new) (eqb (h .kind) kind.class) (eqb (h .sub / 2 % 2) 1) refl refl refl refl)
   where
-    last : (x : Bool) → not (x || false) ≡ false → x ≡ true
-    last true e = refl
-    last false e = absurd (true≢false e)
+    first : firstIsExpression h ≡ true → holds expressions c ≡ mayStand h true c
+    first e = expressions-hold c ∙ sym (stand-first h c e)
+
+    later : firstIsExpression h ≡ false → holds kinds c ≡ mayStand h true c
+    later e = others c ∙ sym (stand-later h c e)
+
+    go : (call new class heritage : Bool) → eqb (h .kind) kind.call ≡ call → eqb (h .kind) kind.new ≡ new → eqb (h .kind) kind.class ≡ class → eqb (h .sub / 2 % 2) 1 ≡ heritage
+        → holds (cond call expressions (cond new expressions (cond class (cond heritage expressions kinds) kinds))) c ≡ mayStand h true c
+    go true new class heritage a b d e = first (rw a refl)
+    go false true class heritage a b d e = first (rw (a, b) refl)
+    go false false true true a b d e = first (rw (a, b, d, e) refl)
+    go false false true false a b d e = later (rw (a, b, d, e) refl)
+    go false false false heritage a b d e = later (rw (a, b, d) refl)
+
+-- The walk over children, where the next one is to be of a kind in `taken`.
+pub record Walking (s : List ℕ) (h : Head) (n from end taken k p : ℕ) : Type 0 where
+  pub first : Bool
+  pub permits : Permits taken h first
+  pub same : childrenEnd s h true n from end ≡ childrenEnd s h first k p end
+
+pub asked : {s : List ℕ} {h : Head} {n from end taken k p : ℕ} (w : Walking s h n from end taken k p) {child : ℕ} {r : Bool} → child ≡ headAt s p .kind → r ≡ holds taken child
+    → mayStand h (w .first) (headAt s p .kind) ≡ r
+asked {taken = taken} w e answer = sym (w .permits _) ∙ ap (holds taken) (sym e) ∙ sym answer

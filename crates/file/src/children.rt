@@ -1,18 +1,27 @@
 // Refusal 7: child counts, subtree sizes, and which kinds may stand where.
 use fields::kind;
 ghost use mathlib.Core.Path.{_≡_};
-ghost use mathlib.Core.Bool.{true, false};
+ghost use mathlib.Core.Bool.{true, cond};
 ghost use Prim.Native.Nat.{_+_, _<_, _≤_};
 ghost use lib.ListN.{length};
-ghost use Rattle.tree.specs.Kind.{isExpression, literal};
+ghost use Rattle.tree.specs.Kind.{isExpression};
 ghost use Rattle.tree.specs.Fields.{start, countOf, headAt, childrenAt};
-ghost use Rattle.tree.specs.Children.{childCountOk, firstIsExpression, mayStand};
+ghost use Rattle.tree.specs.Children.{childCountOk};
 ghost use Rattle.tree.specs.Refusal.{childrenEnd, shapeAt, shapeOk};
 ghost use Rattle.file.specs.Bounds.{leastChildren, mostChildren, countWithin};
-ghost use Rattle.file.specs.Parents.{takesSpread};
+ghost use Rattle.file.specs.Parents.{kindsUnder, firstUnder, holds};
 
-// A bit for each kind: of each that is an expression. A number in place of a table or a test by kind, which would often be mispredicted.
+// A bit for each kind that may stand somewhere; bit 31 is that of all kinds from 31 on. Numbers in place of tables or tests by kind, which
+// would often be mispredicted.
 const EXPRESSIONS: usize = 0b1111_1111_1111_0111_1111_0100_1111_1111;
+
+const ARRAY_CHILDREN: usize = 0b1111_1111_1111_0111_1111_0111_1111_1111;
+
+const ARGUMENTS: usize = 0b1111_1111_1111_0111_1111_0110_1111_1111;
+
+const OBJECT_CHILDREN: usize = 0b1010_0000_0000;
+
+const CLASS_ELEMENTS: usize = 0b1000_0000_0000_0000_0000;
 
 // Two bits for each kind: the least number of children, and the most, 3 if there may be any number.
 const LEAST_CHILDREN: usize = 0b01_01_10_01_00_00_00_00_01_00_00_00_00_00_00_00_00_00;
@@ -75,84 +84,39 @@ fn child_count_ok(src: &[u8], i: usize) -> bool
     }
 }
 
-// Whether the first child of record i is its callee or its heritage.
-fn first_is_expression(src: &[u8], i: usize) -> bool
-    requires { ⌜ start (i + 1) ≤ length (now src) ⌝ }
-    ensures { λ r. ⌜ r ≡ firstIsExpression (headAt (now (src .entry)) i) ⌝ }
+// A choice that the compiler makes without a branch.
+fn pick(test: bool, yes: usize, no: usize) -> usize
+    ensures { λ r. ⌜ r ≡ cond test yes no ⌝ }
 {
-    let kind = fields::kind_at(src, i);
-    let sub = fields::sub_at(src, i);
-    match kind {
-        kind::CALL => true,
-        kind::NEW => true,
-        kind::CLASS => sub / 2 % 2 == 1,
-        _ => false,
-    }
+    if test { yes } else { no }
 }
 
-// Whether record i takes an expression as a child. The promise speaks of a literal: an expression stands where a literal does.
-fn takes_expression(src: &[u8], i: usize, first: bool) -> bool
-    requires { ⌜ start (i + 1) ≤ length (now src) ⌝ }
-    ensures { λ r. ⌜ r ≡ mayStand (headAt (now (src .entry)) i) first literal ⌝ }
+// The kinds that a kind takes as children, but for a callee and a heritage.
+fn kinds_under(kind: usize) -> usize
+    ensures { λ r. ⌜ r ≡ kindsUnder kind ⌝ }
 {
-    let kind = fields::kind_at(src, i);
-    if kind == kind::OBJECT {
-        return false;
-    }
-    if kind == kind::CLASS {
-        if first {
-            return fields::sub_at(src, i) / 2 % 2 == 1;
-        }
-        return false;
-    }
-    true
+    let array = pick(kind == kind::ARRAY, ARRAY_CHILDREN, EXPRESSIONS);
+    let object = pick(kind == kind::OBJECT, OBJECT_CHILDREN, array);
+    let call = pick(kind == kind::CALL, ARGUMENTS, object);
+    let new = pick(kind == kind::NEW, ARGUMENTS, call);
+    pick(kind == kind::CLASS, CLASS_ELEMENTS, new)
 }
 
-// Whether record i takes this kind, which is no expression, as a child that is not its callee or heritage.
-fn takes_part(src: &[u8], i: usize, child: usize) -> bool
-    requires { ⌜ (start (i + 1) ≤ length (now src)) × (isExpression child ≡ false) ⌝ }
-    ensures { λ r. ⌜ r ≡ mayStand (headAt (now (src .entry)) i) false child ⌝ }
+// The kinds that a node takes as its first child, where `kinds` are those of its others.
+fn first_under(kind: usize, sub: usize, kinds: usize) -> usize
+    ensures { λ r. ⌜ r ≡ firstUnder kind sub kinds ⌝ }
 {
-    let kind = fields::kind_at(src, i);
-    match child {
-        kind::ELISION => kind == kind::ARRAY,
-        kind::PROPERTY => kind == kind::OBJECT,
-        kind::ELEMENT => kind == kind::CLASS,
-        _ => takes_spread(kind),
-    }
+    let heritage = pick(sub / 2 % 2 == 1, EXPRESSIONS, kinds);
+    let class = pick(kind == kind::CLASS, heritage, kinds);
+    let new = pick(kind == kind::NEW, EXPRESSIONS, class);
+    pick(kind == kind::CALL, EXPRESSIONS, new)
 }
 
-fn takes_spread(kind: usize) -> bool
-    ensures { λ r. ⌜ r ≡ takesSpread kind ⌝ }
+fn has(kinds: usize, kind: usize) -> bool
+    ensures { λ r. ⌜ r ≡ holds kinds kind ⌝ }
 {
-    if kind == kind::ARRAY {
-        return true;
-    }
-    if kind == kind::OBJECT {
-        return true;
-    }
-    if kind == kind::CALL {
-        return true;
-    }
-    kind == kind::NEW
-}
-
-// Expressions first, since most children are.
-fn may_stand(src: &[u8], i: usize, first: bool, p: usize) -> bool
-    requires { ⌜ (start (i + 1) ≤ length (now src)) × (start (p + 1) ≤ length (now src)) ⌝ }
-    ensures { λ r. ⌜ r ≡ mayStand (headAt (now (src .entry)) i) first (headAt (now (src .entry)) p .kind) ⌝ }
-{
-    let child = fields::kind_at(src, p);
-    if is_expression(child) {
-        return takes_expression(src, i, first);
-    }
-    if first {
-        if first_is_expression(src, i) {
-            return false;
-        }
-        return takes_part(src, i, child);
-    }
-    takes_part(src, i, child)
+    let bit = pick(31 < kind, 31, kind);
+    (kinds >> bit) % 2 == 1
 }
 
 // Whether n children of record i, from record i + 1 on, end exactly at record end, and each may stand there.
@@ -160,7 +124,9 @@ fn children_end(src: &[u8], i: usize, n: usize, end: usize) -> bool
     requires { ⌜ (start end ≤ length (now src)) × (i < end) ⌝ }
     ensures { λ r. ⌜ r ≡ childrenEnd (now (src .entry)) (headAt (now (src .entry)) i) true n (i + 1) end ⌝ }
 {
-    let mut first = true;
+    let kind = fields::kind_at(src, i);
+    let kinds = kinds_under(kind);
+    let mut taken = first_under(kind, fields::sub_at(src, i), kinds);
     let mut p = i + 1;
     let mut k = n;
     while 0 < k {
@@ -174,10 +140,10 @@ fn children_end(src: &[u8], i: usize, n: usize, end: usize) -> bool
         if end - p < size {
             return false;
         }
-        if !may_stand(src, i, first, p) {
+        if !has(taken, fields::kind_at(src, p)) {
             return false;
         }
-        first = false;
+        taken = kinds;
         p += size;
         k -= 1;
     }

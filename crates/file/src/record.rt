@@ -6,6 +6,7 @@ ghost use lib.ListN.{length};
 ghost use Rattle.tree.specs.Below.{allBelow};
 ghost use Rattle.tree.specs.Fields.{start, headAt};
 ghost use Rattle.tree.specs.Record.{allowedFacts, pairsOk, factsOk, elementSubOk, subOk, recordOk, included};
+ghost use Rattle.file.specs.Facts.{allowedTable};
 ghost use Rattle.file.specs.Bounds.{leastSub, mostSub};
 
 // The permitted fact bits of each kind, by its number: 1 is the flag, 31 the flag and both pairs, 127 these with annotated and
@@ -36,48 +37,33 @@ const ALLOWED_FACTS: [u8; 23] = [
     31, // 22 assignment
 ];
 
-fn allowed_facts(kind: usize) -> u8
-    requires { ⌜ kind < 23 ⌝ }
+// The table is lent from function to function: where a constant array is named, it is written to the stack.
+fn allowed_facts(table: &[u8; 23], kind: usize) -> u8
+    requires { ⌜ (kind < 23) × (now table ≡ allowedTable) ⌝ }
     ensures { λ r. ⌜ r ≡ allowedFacts kind ⌝ }
 {
-    ALLOWED_FACTS[kind]
+    table[kind]
 }
 
-// Whether bits 1 to 4 of the facts are permitted, by their number: the string pair times 4 and the symbol pair.
-const PAIRS_OK: [u8; 16] = [
-    1,
-    1,
-    1,
-    0, // string unknown
-    1,
-    1,
-    1,
-    0, // string no
-    0,
-    1,
-    0,
-    0, // string yes
-    0,
-    0,
-    0,
-    0, // no such string pair
-];
+// Whether bits 1 to 4 of the facts are permitted, a bit for each number: the string pair times 4 and the symbol pair. The bits of
+// string unknown stand last, then those of string no, of string yes and of no such pair.
+const PAIRS_OK: usize = 0b0000_0010_0111_0111;
 
 fn pairs_ok(facts: usize) -> bool
     requires { ⌜ facts < 256 ⌝ }
     ensures { λ r. ⌜ r ≡ pairsOk facts ⌝ }
 {
-    PAIRS_OK[facts / 2 % 16] == 1
+    (PAIRS_OK >> (facts / 2 % 16)) % 2 == 1
 }
 
-fn facts_ok(src: &[u8], i: usize) -> bool
-    requires { ⌜ (start (i + 1) ≤ length (now src)) × (headAt (now src) i .kind < 23) ⌝ }
+fn facts_ok(src: &[u8], i: usize, table: &[u8; 23]) -> bool
+    requires { ⌜ (start (i + 1) ≤ length (now src)) × (headAt (now src) i .kind < 23) × (now table ≡ allowedTable) ⌝ }
     ensures { λ r. ⌜ r ≡ factsOk (headAt (now (src .entry)) i) ⌝ }
 {
     let kind = fields::kind_at(src, i);
     let facts = fields::facts_at(src, i);
     // every entry is one less than a power of two, so no more than it means no other bit
-    if (allowed_facts(kind) as usize) < facts {
+    if (allowed_facts(table, kind) as usize) < facts {
         return false;
     }
     if pairs_ok(facts) {
@@ -159,8 +145,8 @@ fn sub_ok(src: &[u8], i: usize) -> bool
     least_sub(kind) <= sub
 }
 
-fn record_ok(src: &[u8], i: usize) -> bool
-    requires { ⌜ start (i + 1) ≤ length (now src) ⌝ }
+fn record_ok(src: &[u8], i: usize, table: &[u8; 23]) -> bool
+    requires { ⌜ (start (i + 1) ≤ length (now src)) × (now table ≡ allowedTable) ⌝ }
     ensures { λ r. ⌜ r ≡ recordOk (headAt (now (src .entry)) i) ⌝ }
 {
     let kind = fields::kind_at(src, i);
@@ -170,7 +156,7 @@ fn record_ok(src: &[u8], i: usize) -> bool
     if kind::ASSIGNMENT < kind {
         return false;
     }
-    if facts_ok(src, i) {
+    if facts_ok(src, i, table) {
         if sub_ok(src, i) {
             return fields::reserved_at(src, i) == 0;
         }
@@ -198,9 +184,10 @@ pub fn records_ok(src: &[u8], n: usize) -> bool
     requires { ⌜ start n ≤ length (now src) ⌝ }
     ensures { λ r. ⌜ r ≡ allBelow (λ i. recordOk (headAt (now (src .entry)) i)) n ⌝ }
 {
+    let table = ALLOWED_FACTS;
     let mut i = 0;
     while i < n {
-        if record_ok(src, i) {
+        if record_ok(src, i, &table) {
             i += 1;
         } else {
             return false;

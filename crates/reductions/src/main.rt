@@ -7,7 +7,7 @@
 use cases::Next;
 use libc::STDIN_FILENO;
 use libc::STDOUT_FILENO;
-use reduce::Reduced;
+use reducer::Reduced;
 ghost use Prim.Native.Nat.{_<_};
 
 // What stands before the file of a case.
@@ -42,7 +42,7 @@ fn reduce_file(src: &[u8], lent: usize, fill: u8)
 }
 
 fn print_reduced(src: &[u8], out: &mut [u8], fill: u8) {
-    let reduced = reduce::reduce(src, out);
+    let reduced = reducer::reduce(src, out);
     match reduced {
         Reduced::Refused(number) => {
             print_number(b"refused ", number as u64);

@@ -6,7 +6,7 @@
 use cases::Next;
 use libc::STDIN_FILENO;
 use libc::STDOUT_FILENO;
-use reduce::Reduced;
+use reducer::Reduced;
 ghost use Prim.Native.Nat.{_≤_};
 ghost use lib.ListN.{length};
 
@@ -60,7 +60,7 @@ fn replay_cases(input: &[u8])
 // The array has room for what any file that is taken is reduced to.
 fn reduces_to(src: &[u8], answer: &[u8]) -> bool {
     let mut out = [0u8; 63992];
-    let reduced = reduce::reduce(src, &mut out);
+    let reduced = reducer::reduce(src, &mut out);
     match reduced {
         Reduced::Refused(_) => false,
         Reduced::Removable => answer.len() == 0,

@@ -322,3 +322,20 @@ module _ (settings : ℕ) (t : Tree) where
     settings-is = holds-settings;
     tree-is = holds-tree;
   }
+
+-- What is accepted within limits is accepted within wider ones.
+pub wider : (low high : Limits) → low .records ≤ high .records → low .depth ≤ high .depth → (s : List ℕ) → refusal low s ≡ 0 → refusal high s ≡ 0
+unfolding countOk depthOk
+wider low high r d s e =
+    let p = passed low s e in
+    let k = counted-parts (low .records) s (p .counted) in
+    unrefused high s record {
+      mark = p .mark;
+      version = p .version;
+      settings = p .settings;
+      counted = and-both (and-both (le-leb 1 (countOf s) (k .some)) (le-leb (countOf s) (high .records) (omega (arith, k .few)))) (eq-eqb (length s) (8 + 16 * countOf s) (k .long));
+      recorded = p .recorded;
+      is-included = p .is-included;
+      shape = p .shape;
+      low = le-leb (depth (treeOf s)) (high .depth) (omega (arith, leb-true (depth (treeOf s)) (low .depth) (p .low)));
+    }

@@ -6,7 +6,7 @@ use native.Mathlib.Nat.{add-zero, zero-add}
 use lib.ListN.{length, drop}
 use Rattle.stated.specs.Stated.{Stated, refused, answered}
 use Rattle.effects.specs.Answer.{number, effectList, statedOf, entriesOf}
-use Rattle.reduce.specs.Answer as reduction
+use Rattle.reducer.specs.Answer as reduction
 
 -- The value of an answer, 0 where there is none.
 abbrev pub value : List ℕ → ℕ

@@ -19,8 +19,8 @@ use Rattle.rules.specs.Effects.{effects}
 use Rattle.rules.specs.Theorems.{few-effects}
 use Rattle.readings.specs.Node.{settingsWith}
 use Rattle.effects.specs.Answer.{numberBy, number, effectList, statedOf}
-use Rattle.reduce.specs.Answer as reduction
-use Rattle.reduce.specs.Run.{promises, unnumbered}
+use Rattle.reducer.specs.Answer as reduction
+use Rattle.reducer.specs.Run.{promises, unnumbered}
 use Rattle.uxt.specs.Packed.{packed, packedLength, plain}
 
 -- Above the low 32 bits a number, or with none there a value in them.

@@ -1,7 +1,7 @@
 // The C functions. include/uxt.h declares them.
 use derived::Answer;
 use effects::Listed;
-use reduce::Reduced;
+use reducer::Reduced;
 ghost use mathlib.Core.Path.{_≡_};
 ghost use Rattle.derived.specs.Answer.{derivedQuestion};
 ghost use Rattle.uxt.specs.Packed.{plain, PackedListing, PackedReduction};
@@ -14,7 +14,7 @@ const NUMBER: u64 = 4294967296;
 pub extern "C" fn uxt_reduce(src: &[u8], out: &mut [u8]) -> u64
     ensures { λ r. ⌜ PackedReduction (now (src .entry)) (now (out .entry)) (now (out .exit)) r ⌝ }
 {
-    let reduced = reduce::reduce(src, out);
+    let reduced = reducer::reduce(src, out);
     match reduced {
         Reduced::Refused(number) => number as u64 * NUMBER,
         Reduced::Removable => 0,

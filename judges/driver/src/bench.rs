@@ -4,7 +4,7 @@ use std::io;
 
 use crate::oracle::Oracle;
 use crate::side::Side;
-use crate::speed;
+use crate::speed::{self, ROUNDS};
 
 /// The sizes of the files, in records. Reduce takes 2,000 at most.
 const SIZES: [usize; 4] = [10, 200, 2_000, 3_999];
@@ -18,42 +18,48 @@ pub fn table(
     mut oracle: Option<&mut Oracle>,
     seed: u64,
 ) -> io::Result<String> {
-    let mut text = head(sides);
+    let (mut reduced, mut listed, mut checked) = (String::new(), String::new(), String::new());
+    let has_oracle = oracle.is_some();
     for records in SIZES {
         let files = speed::files(records, seed);
         let copy = speed::copy(&files);
+        let line = |operation: &str, mut times: Vec<Option<f64>>, oracle: Option<f64>| {
+            times.extend(has_oracle.then_some(oracle));
+            times.push(Some(copy));
+            line(operation, records, &times)
+        };
         let drawn = speed::measure(sides, &files);
-        let check: Vec<_> = drawn.iter().map(|measured| measured.check).collect();
-        let list: Vec<_> = drawn.iter().map(|measured| measured.list).collect();
-        text += &line("check", records, &check, None, copy);
+        checked += &line("check", drawn.iter().map(|measured| measured.check).collect(), None);
         if records <= MOST_REDUCED {
             let files = speed::walked_files(records, seed);
-            let (reduce, stages) = speed::reduce(sides, oracle.as_deref_mut(), &files)?;
-            text += &line("Reduce", records, &reduce, stages.map(|stages| stages.all), copy);
+            let (times, stages) = speed::reduce(sides, oracle.as_deref_mut(), &files)?;
+            reduced += &line("Reduce", times, stages.map(|stages| stages.all));
         }
-        text += &line("List effects", records, &list, None, copy);
+        listed += &line("List effects", drawn.iter().map(|measured| measured.list).collect(), None);
     }
-    Ok(text)
+    Ok(head(sides, has_oracle, seed) + &reduced + &listed + &checked)
 }
 
-fn head(sides: &[&dyn Side]) -> String {
-    let names: String = sides.iter().map(|side| cell(side.name())).collect();
-    format!("{:12} {:>8}{names}{}{}\n", "", "records", cell("oracle"), cell("copy"))
+fn head(sides: &[&dyn Side], has_oracle: bool, seed: u64) -> String {
+    let mut names: Vec<&str> = sides.iter().map(|side| side.name()).collect();
+    names.extend(has_oracle.then_some("oracle"));
+    names.push("copy");
+    let names: String = names.into_iter().map(cell).collect();
+    format!(
+        "seed {seed}; nanoseconds a record, and behind them the ratio to the port's; of each group of\n\
+         files the median of {ROUNDS} rounds; Reduce takes {MOST_REDUCED} records at most; -: not offered\n\
+         {:12} {:>8}{names}\n",
+        "", "records"
+    )
 }
 
-fn line(
-    operation: &str,
-    records: usize,
-    sides: &[Option<f64>],
-    oracle: Option<f64>,
-    copy: f64,
-) -> String {
-    let port = sides[0];
-    let shown = |time: Option<f64>| match (time, port) {
+/// The first time is the port's.
+fn line(operation: &str, records: usize, times: &[Option<f64>]) -> String {
+    let shown = |time: &Option<f64>| match (time, times[0]) {
         (Some(time), Some(port)) => cell(&format!("{time:.1} {:>5.2}", time / port)),
         _ => cell("-"),
     };
-    let cells: String = sides.iter().copied().chain([oracle, Some(copy)]).map(shown).collect();
+    let cells: String = times.iter().map(shown).collect();
     format!("{operation:12} {records:>8}{cells}\n")
 }
 

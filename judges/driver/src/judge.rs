@@ -188,6 +188,18 @@ impl<'s> Judge<'s> {
         Ok(())
     }
 
+    /// The sides must answer this file alike; of what number, the first decides.
+    pub fn alike(
+        &mut self,
+        file: &[u8],
+        output_room: usize,
+        entry_room: usize,
+    ) -> Result<(), Difference> {
+        self.reduce(file, output_room)?;
+        self.list(file, entry_room)?;
+        Ok(())
+    }
+
     /// The check by itself, of the sides that offer it.
     fn checked(&mut self, file: &[u8], reduce: u8, list: u8) -> Result<(), Difference> {
         for &side in self.sides {

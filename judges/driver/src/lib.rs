@@ -5,14 +5,21 @@
 pub mod bench;
 pub mod damage;
 pub mod derived;
+#[cfg(feature = "library")]
+pub mod faulty;
 pub mod file;
 pub mod fixed;
+#[cfg(feature = "library")]
+pub mod guarded;
 pub mod hits;
+#[cfg(feature = "library")]
+pub mod hostile;
 pub mod judge;
 #[cfg(feature = "library")]
 pub mod library;
 pub mod listings;
 pub mod oracle;
+pub mod programs;
 pub mod random;
 pub mod reduced;
 pub mod reductions;
@@ -21,3 +28,5 @@ pub mod run;
 pub mod side;
 pub mod speed;
 pub mod trees;
+#[cfg(feature = "library")]
+pub mod under_damage;

@@ -4,7 +4,7 @@ use crate::file;
 use crate::side::Side;
 
 /// Enough for any file that List effects takes: twice the 3,999 records.
-const ENTRIES: usize = 7_998;
+pub const ENTRIES: usize = 7_998;
 
 /// For each file of the input, which stands behind its length in two bytes: `count` and the number
 /// of its effects, then a line for each, place/kind/coercion; or `refused` and the number.
@@ -18,9 +18,14 @@ pub fn text(side: &dyn Side, input: &[u8]) -> String {
             continue;
         }
         text += &format!("count {}\n", listing.count);
-        for entry in &entries[..listing.count] {
-            text += &format!("{}/{}/{}\n", entry / 512, entry / 2 % 256, entry % 2);
+        for &entry in &entries[..listing.count] {
+            text += &(column(entry) + "\n");
         }
     }
     text
+}
+
+/// "An effect is place × 512 + kind × 2 + 1 if a coercion."
+pub fn column(entry: u64) -> String {
+    format!("{}/{}/{}", entry / 512, entry / 2 % 256, entry % 2)
 }

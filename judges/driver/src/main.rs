@@ -8,12 +8,16 @@ use driver::judge::{Judge, Tally};
 use driver::library::Library;
 use driver::listings;
 use driver::oracle::Oracle;
+use driver::programs;
 use driver::reduced;
 use driver::reductions;
 use driver::run;
 use driver::side::{Port, Side};
 use driver::speed;
+#[cfg(feature = "library")]
+use driver::under_damage;
 use std::io::{self, Read};
+use std::path::Path;
 use std::process::ExitCode;
 use std::{env, fs};
 
@@ -29,6 +33,10 @@ driver listings                           the effects of the files on standard i
 driver reductions                         what is left of them, as the program reductions prints it
 driver reduced                            a line for each of the files on standard input: the
                                           port's number, length and hash of what Reduce writes
+driver programs FOLDER                    runs FOLDER/columns and FOLDER/reduce on each of them, and
+                                          compares what is printed with the port's answers
+driver damage [--files N] [--seed S]      damaged and random files through the library, between pages
+                                          that it may not touch
 driver speed [--seed S] [--oracle PATH]   nanoseconds a record
 driver bench [--seed S] [--oracle PATH]   the same as one table, with ratios";
 
@@ -37,9 +45,12 @@ const BRIEF_TREES: u64 = 200_000;
 /// What stands on the command line.
 struct Arguments {
     trees: u64,
+    files: u64,
     seed: u64,
     oracle: Option<String>,
     hits: bool,
+    /// Only a fault that the guards must find: `damage` starts itself so.
+    fault: Option<usize>,
     file: Option<String>,
 }
 
@@ -54,6 +65,8 @@ fn main() -> ExitCode {
         "listings" => Ok(listings::text(&Port, &input()?)),
         "reduced" => Ok(reduced::text(&Port, &input()?)),
         "reductions" => Ok(reductions::text(&Port, &input()?)),
+        "programs" => run_programs(&arguments),
+        "damage" => damage(arguments.files, arguments.seed, arguments.fault),
         "speed" => measure(&arguments),
         "bench" => benchmark(&arguments),
         _ => Err(HELP.to_string()),
@@ -71,16 +84,25 @@ fn main() -> ExitCode {
 }
 
 fn arguments(mut words: impl Iterator<Item = String>) -> Result<Arguments, String> {
-    let mut arguments =
-        Arguments { trees: 1_000_000, seed: 1, oracle: None, hits: false, file: None };
+    let mut arguments = Arguments {
+        trees: 1_000_000,
+        files: 100_000,
+        seed: 1,
+        oracle: None,
+        hits: false,
+        fault: None,
+        file: None,
+    };
     while let Some(word) = words.next() {
         let mut value = || words.next().ok_or(format!("{word} needs a value"));
         let number = |text: String| text.parse().map_err(|_| format!("no number: {text}"));
         match word.as_str() {
             "--trees" => arguments.trees = number(value()?)?,
+            "--files" => arguments.files = number(value()?)?,
             "--seed" => arguments.seed = number(value()?)?,
             "--oracle" => arguments.oracle = Some(value()?),
             "--hits" => arguments.hits = true,
+            "--fault" => arguments.fault = Some(number(value()?)? as usize),
             _ => arguments.file = Some(word),
         }
     }
@@ -174,10 +196,28 @@ fn make_fixed_list(arguments: &Arguments) -> Result<String, String> {
     Ok(format!("{} cases, {} bytes\n", cases.len(), bytes.len()))
 }
 
+fn run_programs(arguments: &Arguments) -> Result<String, String> {
+    let folder = arguments.file.as_ref().ok_or("which folder?")?;
+    programs::held(&Port, Path::new(folder), &input()?)
+}
+
 fn input() -> Result<Vec<u8>, String> {
     let mut input = Vec::new();
     io::stdin().read_to_end(&mut input).map_err(|error| error.to_string())?;
     Ok(input)
+}
+
+#[cfg(feature = "library")]
+fn damage(files: u64, seed: u64, fault: Option<usize>) -> Result<String, String> {
+    match fault {
+        Some(fault) => under_damage::run_faulty(fault),
+        None => under_damage::run(files, seed),
+    }
+}
+
+#[cfg(not(feature = "library"))]
+fn damage(_: u64, _: u64, _: Option<usize>) -> Result<String, String> {
+    Err("damage is for the proved library: build the driver with --features library".to_string())
 }
 
 fn measure(arguments: &Arguments) -> Result<String, String> {
@@ -207,7 +247,7 @@ fn benchmark(arguments: &Arguments) -> Result<String, String> {
     if let Some(oracle) = oracle {
         oracle.stop().map_err(|error| error.to_string())?;
     }
-    Ok(format!("nanoseconds a record, and by those of the port\n{table}"))
+    Ok(table)
 }
 
 fn measure_reduce(records: usize, seed: u64, oracle: Option<&mut Oracle>) -> io::Result<()> {

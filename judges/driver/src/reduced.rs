@@ -4,7 +4,7 @@ use crate::file;
 use crate::side::Side;
 
 /// Enough for any file that Reduce takes: 8 + 16 × (2 × 2,000 − 1).
-const OUT: usize = 63_992;
+pub const OUT: usize = 63_992;
 
 /// For each file of the input, which stands behind its length in two bytes: the number of the
 /// refusal, the length of the answer and the hash of its bytes.

@@ -1,4 +1,8 @@
-//! The proved library's C functions, as `include/uxt.h` of the repository declares them.
+//! The proved library's C functions, as `include/uxt.h` of the repository declares them, and guarded memory
+//! to lend to them.
+
+pub mod fault;
+pub mod guarded;
 
 unsafe extern "C" {
     fn uxt_reduce(src: *const u8, src_len: usize, out: *mut u8, out_len: usize) -> u64;

@@ -1,6 +1,7 @@
 use mathlib.Core.Path.{sym, ap, _∙_}
 use native.Mathlib.Omega.{arith}
 use Rattle.file.specs.Answer.{stated}
+use Rattle.effects.specs.Listing.{given-one, listed-one}
 use Rattle.effects.specs.Run.{refused-file, count-few, refused-room, root-given, counted}
 use borrow.Author.Needs.{needs}
 use Rattle.effects.proofs.list_effects.Statement.{statement}
@@ -21,8 +22,8 @@ mul-if1 c = omega (arith, count-few _ _ _ (ap stated (sym (c .before .checked2 .
 returns : tie.Need-returns
 returns c = refused-room _ _ _ (ap stated (sym (c .before .before .checked2 .given .1)) ∙ c .before .before .before .before .check .ensures) (c .if1 .taken)
 
-list-expr-requires : tie.Need-list-expr-requires
-list-expr-requires c κs = root-given _ _ _ (ap stated (sym (c .before .before .before .checked2 .given .1)) ∙ c .before .before .before .before .before .check .ensures) (record { small = λ i. omega (arith, c .before .before .before .before .before .before .before .shared-slice-known .given i) }) _ (c .before .if1 .left)
+list-children-requires : tie.Need-list-children-requires
+list-children-requires c κs = given-one (root-given _ _ _ (ap stated (sym (c .before .before .before .checked2 .given .1)) ∙ c .before .before .before .before .before .check .ensures) (record { small = λ i. omega (arith, c .before .before .before .before .before .before .before .shared-slice-known .given i) }) _ (c .before .if1 .left))
 
 returns-2 : tie.Need-returns-2
 returns-2 c = refused-file _ _ (ap stated (sym (c .before .checked .given .1)) ∙ c .before .before .before .check .ensures)
@@ -31,7 +32,7 @@ same-length : tie.Need-same-length
 same-length c = search needs
 
 returns-3 : tie.Need-returns-3
-returns-3 c = counted _ _ _ (ap stated (sym (c .before .before .before .before .before .before .checked2 .given .1)) ∙ c .before .before .before .before .before .before .before .before .check .ensures) (record { small = λ i. omega (arith, c .before .before .before .before .before .before .before .before .before .before .shared-slice-known .given i) }) (c .before .before .before .before .if1 .left) (c .before .before .list-expr .ensures)
+returns-3 c = counted _ _ _ (ap stated (sym (c .before .before .before .before .before .before .checked2 .given .1)) ∙ c .before .before .before .before .before .before .before .before .check .ensures) (record { small = λ i. omega (arith, c .before .before .before .before .before .before .before .before .before .before .shared-slice-known .given i) }) (c .before .before .before .before .if1 .left) (listed-one (c .before .before .list-children .ensures))
 
 pub list-effects-spec : {M : Type 1} → statement M
 list-effects-spec =
@@ -42,7 +43,7 @@ list-effects-spec =
     enum-known-checked-2
     mul-if1
     returns
-    list-expr-requires
+    list-children-requires
     returns-2
     same-length
     returns-3)

@@ -1,4 +1,4 @@
-use Rattle.listings.specs.Within.{count-within}
+use Rattle.effects.specs.Answer.{count-within}
 use borrow.Author.Needs.{needs}
 use Rattle.listings.proofs.print_effects.Statement.{statement}
 use Rattle.listings.proofs.print_effects.Tie as tie

@@ -1,7 +1,7 @@
 use mathlib.Core.Path.{sym}
 use lib.Seq.{length-take-le}
 use native.Mathlib.Omega.{arith}
-use Rattle.reductions.specs.Within.{kept-within}
+use Rattle.reducer.specs.Answer.{kept-within}
 use borrow.Author.Needs.{needs}
 use Rattle.reductions.proofs.print_reduced.Statement.{statement}
 use Rattle.reductions.proofs.print_reduced.Tie as tie

@@ -1,5 +1,5 @@
 use mathlib.Core.Path.{sym, ap, _∙_}
-use Rattle.reduce.specs.Answer.{stated}
+use Rattle.reducer.specs.Answer.{stated}
 use Rattle.uxt.specs.Packed.{length-refused, length-answered}
 use borrow.Author.Needs.{needs}
 use Rattle.uxt.proofs.uxt_reduce.Statement.{statement}

@@ -1,7 +1,7 @@
-use mathlib.Core.Path.{sym, _∙_}
-use mathlib.Core.Bool.{true≢false}
-use mathlib.Core.Logic.{⊎-elim}
-use Rattle.effects.specs.Entry.{wrote-one, wrote-held}
+use lib.ListN.{length-set}
+use mathlib.Core.Logic.{inl, inr, ⊎-elim}
+use Rattle.effects.specs.Entry.{next-inside, wrote-next, wrote-held}
+use native.Mathlib.Omega.{arith}
 use borrow.Author.Needs.{needs}
 use Rattle.effects.proofs.entry.list_if.Statement.{statement}
 use Rattle.effects.proofs.entry.list_if.Tie as tie
@@ -24,11 +24,14 @@ add-effect c = search needs
 add-effect-2 : tie.Need-add-effect-2
 add-effect-2 c = search needs
 
+add-next : tie.Need-add-next
+add-next c = search needs
+
 mul-held : tie.Need-mul-held
-mul-held c = search needs
+mul-held c = omega (arith, next-inside _ _ _ _ _ _ (c .before .before .before .before .before .before .pre) (⊎-elim (λ x. inl (x .0 .taken, x .1)) (λ x. inr (x .0 .left, x .1)) (c .before .if1 .came)))
 
 slice-read-held : tie.Need-slice-read-held
-slice-read-held c = search needs
+slice-read-held c = next-inside _ _ _ _ _ _ (c .before .before .before .before .before .before .before .pre) (⊎-elim (λ x. inl (x .0 .taken, x .1)) (λ x. inr (x .0 .left, x .1)) (c .before .before .if1 .came))
 
 mul-out : tie.Need-mul-out
 mul-out c = search needs
@@ -36,20 +39,17 @@ mul-out c = search needs
 slice-write-out : tie.Need-slice-write-out
 slice-write-out c = search needs
 
-add-result : tie.Need-add-result
-add-result c = search needs
+mul-out-2 : tie.Need-mul-out-2
+mul-out-2 c = omega (arith, next-inside _ _ _ _ _ _ (c .before .before .before .before .before .before .before .pre) (⊎-elim (λ x. inl (x .0 .taken, x .1)) (λ x. inr (x .0 .left, x .1)) (c .before .before .if1 .came)))
+
+slice-write-out-2 : tie.Need-slice-write-out-2
+slice-write-out-2 c = rw length-set (next-inside _ _ _ _ _ _ (c .before .before .before .before .before .before .before .pre) (⊎-elim (λ x. inl (x .0 .taken, x .1)) (λ x. inr (x .0 .left, x .1)) (c .before .before .if1 .came)))
 
 same-length : tie.Need-same-length
 same-length c = search needs
 
 returns : tie.Need-returns
-returns c = rw (c .if2 .taken) (⊎-elim (λ x. rw (x .1) (wrote-one _ _ _ _ _ (c .before .before .before .before .place-at .ensures .0) (c .before .before .before .kind-at .ensures .0))) (λ x. absurd (true≢false (sym (c .if2 .taken) ∙ x .0 .left))) (c .before .if1 .came))
-
-same-length-2 : tie.Need-same-length-2
-same-length-2 c = search needs
-
-returns-2 : tie.Need-returns-2
-returns-2 c = rw (c .if2 .left) (⊎-elim (λ x. absurd (true≢false (sym (x .0 .taken) ∙ c .if2 .left))) (λ x. rw (x .1) (wrote-held _ _)) (c .before .if1 .came))
+returns c = ⊎-elim (λ x. rw (x .0 .taken, x .1) (wrote-next _ _ _ _ _ (c .before .before .before .before .place-at .ensures .0) (c .before .before .before .kind-at .ensures .0))) (λ x. rw (x .0 .left, x .1) (wrote-held _ _ _)) (c .before .before .if1 .came)
 
 pub list-if-spec : {M : Type 1} → statement M
 list-if-spec =
@@ -61,12 +61,12 @@ list-if-spec =
     mul-effect-2
     add-effect
     add-effect-2
+    add-next
     mul-held
     slice-read-held
     mul-out
     slice-write-out
-    add-result
+    mul-out-2
+    slice-write-out-2
     same-length
-    returns
-    same-length-2
-    returns-2)
+    returns)

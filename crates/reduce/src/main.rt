@@ -1,0 +1,26 @@
+// Writes what Reduce leaves of the tree file on standard input: one tree file, or nothing.
+// A refusal is printed on standard error. The first 32,009 bytes are read: one more than the longest file that is taken.
+use libc::STDERR_FILENO;
+use libc::STDIN_FILENO;
+use libc::STDOUT_FILENO;
+use reducer::Reduced;
+
+fn main() {
+    let mut input = [0u8; 32009];
+    let n = io::read_full(STDIN_FILENO, &mut input);
+    let mut left = [0u8; 63992];
+    let reduced = reducer::reduce(&input[..n], &mut left);
+    match reduced {
+        Reduced::Refused(number) => print_refusal(number),
+        Reduced::Removable => {}
+        Reduced::Kept(length) => {
+            io::write_all(STDOUT_FILENO, &left[..length]);
+        }
+    }
+}
+
+fn print_refusal(number: u8) {
+    io::write_all(STDERR_FILENO, b"refused ");
+    io::print_decimal(STDERR_FILENO, number as u64);
+    io::write_all(STDERR_FILENO, b"\n");
+}

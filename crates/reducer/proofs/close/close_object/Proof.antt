@@ -1,0 +1,30 @@
+use Rattle.rules.specs.Made.{makeObject}
+use Rattle.reducer.specs.Close.{closing-waiting, closing-list, closed}
+use borrow.Author.Needs.{needs}
+use Rattle.reducer.proofs.close.close_object.Statement.{statement}
+use Rattle.reducer.proofs.close.close_object.Tie as tie
+
+place-at-requires : tie.Need-place-at-requires
+place-at-requires c κs = c .before .before .pre .node-inside
+
+flush-object-requires : tie.Need-flush-object-requires
+flush-object-requires c κs = closing-waiting (c .before .before .before .before .pre) (c .before .place-at .ensures .1)
+
+none-one-several-requires : tie.Need-none-one-several-requires
+none-one-several-requires c κs = closing-list makeObject (c .before .before .before .flush-object .ensures) (c .before .before .before .before .before .before .before .before .pre) (c .before .before .before .flush-object .kept .0)
+
+same-length : tie.Need-same-length
+same-length c = search needs
+
+returns : tie.Need-returns
+returns c = closed makeObject (c .before .before .before .before .before .before .flush-object .ensures) (c .before .before .before .before .before .before .before .before .place-at .ensures .0) (c .before .before .none-one-several .ensures)
+
+pub close-object-spec : {M : Type 1} → statement M
+close-object-spec =
+    tie.close
+    (tie.spec
+    place-at-requires
+    flush-object-requires
+    none-one-several-requires
+    same-length
+    returns)

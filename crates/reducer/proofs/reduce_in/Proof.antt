@@ -1,0 +1,50 @@
+use native.Mathlib.Omega.{arith}
+use Rattle.reducer.specs.Run.{count-bounds, root-given, end-few, removable, kept}
+use borrow.Author.Needs.{needs}
+use Rattle.reducer.proofs.reduce_in.Statement.{statement}
+use Rattle.reducer.proofs.reduce_in.Tie as tie
+
+remove-unused-expression-requires : tie.Need-remove-unused-expression-requires
+remove-unused-expression-requires c κs = root-given (c .before .before .before .before .pre .0) (c .before .before .before .before .pre .1)
+
+same-length : tie.Need-same-length
+same-length c = search needs
+
+returns : tie.Need-returns
+returns c = removable (c .before .before .before .before .before .before .before .before .pre .0) (c .before .before .before .remove-unused-expression .ensures) (c .if1 .taken)
+
+write-header-requires : tie.Need-write-header-requires
+write-header-requires c κs = (omega (arith, count-bounds (c .before .before .before .before .before .before .before .before .before .pre .0)), omega (arith, c .before .before .before .before .before .before .before .before .before .pre .1, c .before .before .before .before .remove-unused-expression .kept .1 .1 .1 .1 .1 .0), omega (arith, end-few (c .before .before .before .before .before .before .before .before .before .pre .0) (c .before .before .before .before .remove-unused-expression .ensures), count-bounds (c .before .before .before .before .before .before .before .before .before .pre .0)))
+
+mul-length : tie.Need-mul-length
+mul-length c = omega (arith, end-few (c .before .before .before .before .before .before .before .before .before .before .before .before .pre .0) (c .before .before .before .before .before .before .before .remove-unused-expression .ensures), count-bounds (c .before .before .before .before .before .before .before .before .before .before .before .before .pre .0))
+
+add-length : tie.Need-add-length
+add-length c = omega (arith, end-few (c .before .before .before .before .before .before .before .before .before .before .before .before .pre .0) (c .before .before .before .before .before .before .before .remove-unused-expression .ensures), count-bounds (c .before .before .before .before .before .before .before .before .before .before .before .before .pre .0))
+
+copy-bytes-requires : tie.Need-copy-bytes-requires
+copy-bytes-requires c κs = let e = end-few (c .before .before .before .before .before .before .before .before .before .before .before .before .before .before .pre .0) (c .before .before .before .before .before .before .before .before .before .remove-unused-expression .ensures) in (omega (arith, e, count-bounds (c .before .before .before .before .before .before .before .before .before .before .before .before .before .before .pre .0), c .before .before .before .before .before .before .before .before .before .before .before .before .before .before .pre .1, c .before .before .before .before .write-header .kept .1 .0, c .before .before .before .before .before .before .before .before .before .remove-unused-expression .kept .1 .1 .1 .1 .1 .0), omega (arith, e, count-bounds (c .before .before .before .before .before .before .before .before .before .before .before .before .before .before .pre .0), c .before .before .before .before .before .before .before .before .before .before .before .before .before .before .pre .0 .fits))
+
+same-length-2 : tie.Need-same-length-2
+same-length-2 c = search needs
+
+same-length-3 : tie.Need-same-length-3
+same-length-3 c = search needs
+
+returns-2 : tie.Need-returns-2
+returns-2 c = kept (c .before .before .before .before .before .before .before .before .before .before .before .before .before .before .before .before .before .pre .0) (c .before .before .before .before .before .before .before .before .before .before .before .before .remove-unused-expression .ensures) (c .before .before .before .before .before .before .before .write-header .ensures) (record { small = λ i. omega (arith, c .before .before .before .before .before .slice-known4 .given i) }) (omega (arith, end-few (c .before .before .before .before .before .before .before .before .before .before .before .before .before .before .before .before .before .pre .0) (c .before .before .before .before .before .before .before .before .before .before .before .before .remove-unused-expression .ensures), count-bounds (c .before .before .before .before .before .before .before .before .before .before .before .before .before .before .before .before .before .pre .0), c .before .before .before .before .before .before .before .before .before .before .before .before .before .before .before .before .before .pre .1, c .before .before .before .before .before .before .before .write-header .kept .1 .0, c .before .before .before .before .before .before .before .before .before .before .before .before .remove-unused-expression .kept .1 .1 .1 .1 .1 .0)) (c .before .before .before .before .before .before .before .before .before .if1 .left) (c .before .before .copy-bytes .ensures) (c .before .before .copy-bytes .kept .1 .1 .1 .0)
+
+pub reduce-in-spec : {M : Type 1} → statement M
+reduce-in-spec =
+    tie.close
+    (tie.spec
+    remove-unused-expression-requires
+    same-length
+    returns
+    write-header-requires
+    mul-length
+    add-length
+    copy-bytes-requires
+    same-length-2
+    same-length-3
+    returns-2)

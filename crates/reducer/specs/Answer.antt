@@ -1,0 +1,118 @@
+-- What Reduce answers: document 01's number and values for every case, every lent byte, and what holds of an accepted file's answer.
+use mathlib.Core.Path.{_≡_, refl, sym, ap, _∙_}
+use mathlib.Core.Bool.{Bool, cond}
+use mathlib.Core.List.{List, [], _∷_, _++_}
+use Prim.Native.Nat.{ℕ, zero, suc, _+_, _*_, _-_, _≤_}
+use native.Mathlib.Omega.{arith}
+use lib.Dec.{ltb}
+use lib.ListN.{length, getD, drop, length-append}
+use Rattle.stated.specs.Stated.{Stated, refused, answered, injective-by}
+use Rattle.tree.specs.Tree.{Tree, forest, records, levels, depth}
+use Rattle.tree.specs.Fields.{settingsOf, countOf}
+use Rattle.tree.specs.File.{fileBytes}
+use Rattle.tree.specs.Refusal.{reduceLimits, listEffectsLimits, refusal, treeOf}
+use Rattle.rules.specs.Reduce.{reduce}
+use Rattle.rules.specs.Reads.{Premise}
+use Rattle.readings.specs.Node.{settingsWith}
+use Rattle.effects.specs.Answer.{effectList}
+use Rattle.reducer.specs.declared.Reduced.{Reduced}
+use Rattle.reducer.specs.declared.Reduced.the-variants.{Refused, Removable, Kept}
+
+-- A refusal states its number; an answer how many trees are left, none or one, and the length.
+abbrev pub stated : Reduced → Stated
+stated (Refused n) = refused n
+stated Removable = answered (0 ∷ 0 ∷ [])
+stated (Kept n) = answered (1 ∷ n ∷ [])
+
+-- The refusals of the file, then "9 output under 8 + 16 × (2 × N − 1) bytes"
+abbrev pub numberBy : ℕ → Bool → ℕ
+numberBy zero short = cond short 9 0
+numberBy (suc k) short = suc k
+
+unfoldable pub number : List ℕ → ℕ → ℕ
+number s room = numberBy (refusal reduceLimits s) (ltb room (8 + 16 * (2 * countOf s - 1)))
+
+-- What is left of the file's tree under the file's settings.
+unfoldable pub left : List ℕ → List Tree
+left s = reduce (settingsWith (settingsOf s)) (treeOf s)
+
+-- "Removable: length 0", "Kept: length; .. header settings copied"
+abbrev pub fileOf : ℕ → List Tree → List ℕ
+fileOf settings [] = []
+fileOf settings (t ∷ ts) = fileBytes settings t
+
+unfoldable pub rewritten : List ℕ → List ℕ
+rewritten s = fileOf (settingsOf s) (left s)
+
+abbrev pub statedOf : ℕ → List ℕ → Stated
+statedOf zero s = answered (length (left s) ∷ length (rewritten s) ∷ [])
+statedOf (suc k) s = refused (suc k)
+
+-- "Refused: .. output untouched. Removable: .. untouched. Kept: .. later bytes untouched"
+abbrev pub bytesOf : ℕ → List ℕ → List ℕ → List ℕ
+bytesOf zero s old = rewritten s ++ drop (length (rewritten s)) old
+bytesOf (suc k) s old = old
+
+-- The effect list of the answer: what List effects lists of a kept file, and none where nothing is kept.
+abbrev listOf : List Tree → List ℕ → List ℕ
+listOf [] file = []
+listOf (t ∷ ts) file = effectList file
+
+unfoldable pub answerList : List ℕ → List ℕ
+answerList s = listOf (left s) (rewritten s)
+
+-- A kept file: List effects accepts it, and it holds the tree that is left, under the same settings.
+pub record KeptFile (s : List ℕ) (t : Tree) : Type 0 where
+  pub is-listed : refusal listEffectsLimits (rewritten s) ≡ 0
+  pub tree-is : treeOf (rewritten s) ≡ t
+  pub settings-is : settingsOf (rewritten s) ≡ settingsOf s
+
+-- What holds of the answer to an accepted file.
+pub record Promised (s : List ℕ) : Type 0 where
+  -- Demand 3: "the same effects, each as often and in the same order. [...] A tree answered removable has an empty list. [...] The one
+  -- premise: each node whose clear effect flag is read, in the cases that 01 names, has an empty effect list."
+  pub same-effects : Premise (settingsWith (settingsOf s)) (treeOf s) → answerList s ≡ effectList s
+  -- "premise or not, there is no result of more than 2 × N − 1 records from N"
+  pub few : records (forest (left s)) ≤ 2 * countOf s - 1
+  -- "Result depth is at most one more."
+  pub low : levels (forest (left s)) ≤ suc (depth (treeOf s))
+  pub at-most-one : length (left s) ≤ 1
+  pub kept-file : (t : Tree) → left s ≡ t ∷ [] → KeptFile s t
+
+pub record Answers (s old new : List ℕ) (r : Reduced) : Type 0 where
+  pub answer : stated r ≡ statedOf (number s (length old)) s
+  pub bytes : new ≡ bytesOf (number s (length old)) s old
+  pub promised : number s (length old) ≡ 0 → Promised s
+
+-- An answer is determined by what it states, since it can be read back.
+reducedOf : Stated → Reduced
+reducedOf s = from (s .number) (s .values)
+  where
+    from : ℕ → List ℕ → Reduced
+    from n [] = Refused n
+    from n (zero ∷ vs) = Removable
+    from n (suc k ∷ []) = Removable
+    from n (suc k ∷ v ∷ vs) = Kept v
+
+pub stated-injective : (a b : Reduced) → stated a ≡ stated b → a ≡ b
+unfolding reducedOf
+stated-injective = injective-by stated reducedOf read
+  where
+    read : (a : Reduced) → reducedOf (stated a) ≡ a
+    read (Refused n) = refl
+    read Removable = refl
+    read (Kept n) = refl
+
+-- The file that is kept stands in the lent bytes.
+pub kept-within : {s old new : List ℕ} {r : Reduced} {n : ℕ} → Answers s old new r → r ≡ Kept n → n ≤ length new
+kept-within {s} {old} {new} {r} {n} a kept = rw (a .bytes) (go (number s (length old)) (ap stated (sym kept) ∙ a .answer))
+  where
+    go : (k : ℕ) → answered (1 ∷ n ∷ []) ≡ statedOf k s → n ≤ length (bytesOf k s old)
+    go zero e =
+        let values : 1 ∷ n ∷ [] ≡ length (left s) ∷ length (rewritten s) ∷ [] = ap (λ (x : Stated). x .values) e in
+        let counted : n ≡ length (rewritten s) = ap (λ l. getD l 1 0) values in
+        omega (arith, length-append (rewritten s) (drop (length (rewritten s)) old))
+    go (suc k) e =
+        let values : 1 ∷ n ∷ [] ≡ [] = ap (λ (x : Stated). x .values) e in
+        let z : _≡_ {A = ℕ} 1 0 = ap (λ l. getD l 0 0) values in
+        omega arith

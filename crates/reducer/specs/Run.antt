@@ -1,0 +1,233 @@
+-- The operation: from the check's answer to the rewritten file.
+use mathlib.Core.Path.{_≡_, refl, sym, ap, subst, _∙_}
+use mathlib.Core.Bool.{Bool, true, _&&_}
+use mathlib.Core.List.{List, [], _∷_, _++_}
+use mathlib.Core.Logic.{⊎-elim}
+use Prim.Native.Nat.{ℕ, zero, suc, _+_, _*_, _-_, _<_, _≤_}
+use native.Mathlib.Omega.{arith}
+use lib.Dec.{eqb, leb, ltb}
+use lib.ListN.{length, getD, drop, length-append, length-drop, List·getD-append}
+use lib.Seq.{ext-getD, getD-append-add, getD-drop}
+use borrow.Author.Tests.{lt-ltb, le-ltb, le-leb}
+use Rattle.le.specs.Le.{u16At}
+use Rattle.stated.specs.Stated.{refused, answered}
+use Rattle.tree.specs.Tree.{Tree, forest, one, records, size}
+use Rattle.tree.specs.Below.{and-both, and-left, and-right, lt-or-le}
+use Rattle.tree.specs.Children.{nodeOk, formed, wellFormed}
+use Rattle.tree.specs.Fields.{settingsOf, countOf, start}
+use Rattle.tree.specs.File.{bytes, header, fileBytes}
+use Rattle.tree.specs.Refusal.{reduceLimits, listEffectsLimits, refusal, treeOf, markOk, versionOk}
+use Rattle.tree.specs.Encoding.{Bytes, bytes-stand, length-bytes}
+use Rattle.tree.specs.Accepted.{passed, counted-parts, Accepted, accepted, FileOf, file-of, header-is}
+use Rattle.tree.specs.Kind as kind
+use Rattle.file.specs.Answer.{verdict, verdict-refused, verdict-accepted}
+use Rattle.rules.specs.Reads.{Premise}
+use Rattle.rules.specs.Reduce.{reduce}
+use Rattle.rules.specs.Theorems.{kept-same-effects, removable-no-effects, at-most-twice, one-deeper, at-most-one, kept-within}
+use Rattle.readings.specs.Node.{settingsWith}
+use Rattle.readings.specs.Input.{Input}
+use Rattle.effects.specs.Answer.{effectList}
+use Rattle.output.specs.Bytes.{Moved, kept-copied, copied-at}
+use Rattle.output.specs.Trees.{Wrote, spans-copied}
+use Rattle.reducer.specs.declared.Reduced.the-variants.{Refused, Removable, Kept}
+use Rattle.reducer.specs.Header.{Headed}
+use Rattle.reducer.specs.Given.{GivenTree, ReducedTree}
+use Rattle.reducer.specs.Answer.{number, numberBy, left, rewritten, answerList, KeptFile, Promised, Answers}
+
+-- An accepted file, and room for its answer.
+pub record GivenFile (s : List ℕ) (count settings : ℕ) (out : List ℕ) : Type 0 where
+  pub accepted-is : refusal reduceLimits s ≡ 0
+  pub count-is : count ≡ countOf s
+  pub settings-is : settings ≡ settingsOf s
+  pub is-bytes : Bytes s
+  pub fits : 8 + 16 * (2 * count - 1) ≤ length out
+
+-- What holds of the answer to an accepted file.
+module _ (s : List ℕ) (bs : Bytes s) (e : refusal reduceLimits s ≡ 0) where
+  A : Accepted reduceLimits s
+  A = accepted reduceLimits s bs e
+
+  kept-of : (t : Tree) → left s ≡ t ∷ [] → FileOf listEffectsLimits (settingsOf s) t
+  unfolding left
+  kept-of t x = file-of (settingsOf s) t listEffectsLimits (omega arith) (kept-within (settingsWith (settingsOf s)) (treeOf s) (A .permitted) t x)
+
+  kept-file : (t : Tree) → left s ≡ t ∷ [] → KeptFile s t
+  unfolding rewritten
+  kept-file t x =
+      let f = kept-of t x in
+      record { is-listed = rw x (f .accepted); tree-is = rw x (f .tree-is); settings-is = rw x (f .settings-is) }
+
+  same : Premise (settingsWith (settingsOf s)) (treeOf s) → answerList s ≡ effectList s
+  unfolding answerList rewritten effectList left
+  same p = go (left s) refl (at-most-one (settingsWith (settingsOf s)) (treeOf s) (A .permitted .well))
+    where
+      go : (l : List Tree) → left s ≡ l → length (left s) ≤ 1 → answerList s ≡ effectList s
+      go [] x n = rw x (sym (removable-no-effects (settingsWith (settingsOf s)) (treeOf s) (A .permitted .well) p x))
+      go (t ∷ []) x n =
+          let f = kept-of t x in
+          rw x (rw (f .settings-is, f .tree-is) (kept-same-effects (settingsWith (settingsOf s)) (treeOf s) (A .permitted .well) p t x))
+      go (t ∷ u ∷ us) x n = absurd (omega (arith, n, ap length x))
+
+  pub promises : Promised s
+  unfolding left
+  promises = record {
+    same-effects = same;
+    few = omega (arith, at-most-twice (settingsWith (settingsOf s)) (treeOf s), A .sized);
+    low = one-deeper (settingsWith (settingsOf s)) (treeOf s);
+    at-most-one = at-most-one (settingsWith (settingsOf s)) (treeOf s) (A .permitted .well);
+    kept-file = kept-file;
+  }
+
+-- No number: no refusal of the file.
+pub unnumbered : (s : List ℕ) (room : ℕ) → number s room ≡ 0 → refusal reduceLimits s ≡ 0
+unfolding number
+unnumbered s room z = go (refusal reduceLimits s) (ltb room (8 + 16 * (2 * countOf s - 1))) z
+  where
+    go : (k : ℕ) (b : Bool) → numberBy k b ≡ 0 → k ≡ 0
+    go zero b z = refl
+    go (suc k) b z = z
+
+pub refused-file : (s : List ℕ) (n : ℕ) {old : List ℕ} → Bytes s → refused n ≡ verdict reduceLimits s → Answers s old old (Refused n)
+unfolding number
+refused-file s n {old} bs e = go n (verdict-refused reduceLimits s n e .0) (verdict-refused reduceLimits s n e .1)
+  where
+    go : (m : ℕ) → refusal reduceLimits s ≡ m → (m ≡ 0 → ⊥) → Answers s old old (Refused m)
+    go zero r z = absurd (z refl)
+    go (suc m) r z = record { answer = rw r; bytes = rw r; promised = λ q. promises s bs (unnumbered s (length old) q) }
+
+-- An accepted file.
+module _ (s : List ℕ) (st n : ℕ) (e : answered (st ∷ n ∷ []) ≡ verdict reduceLimits s) where
+  is-zero : refusal reduceLimits s ≡ 0
+  is-zero = verdict-accepted reduceLimits s st n e .0
+
+  is-count : n ≡ countOf s
+  is-count = verdict-accepted reduceLimits s st n e .2
+
+  pub count-few : (1 ≤ n) × (n ≤ 2000)
+  count-few = let k = counted-parts (reduceLimits .records) s (passed reduceLimits s is-zero .counted) in omega (arith, is-count, k .some, k .few)
+
+  pub refused-room : Bytes s → {old : List ℕ} → length old < 8 + 16 * (2 * n - 1) → Answers s old old (Refused 9)
+  unfolding number
+  refused-room bs {old} l =
+      let x : ltb (length old) (8 + 16 * (2 * countOf s - 1)) ≡ true = lt-ltb (length old) (8 + 16 * (2 * countOf s - 1)) (omega (arith, is-count)) in
+      record { answer = rw (is-zero, x); bytes = rw (is-zero, x); promised = λ q. promises s bs is-zero }
+
+  pub file-given : Bytes s → {out : List ℕ} → 8 + 16 * (2 * n - 1) ≤ length out → GivenFile s n st out
+  file-given bs l = record { accepted-is = is-zero; count-is = is-count; settings-is = verdict-accepted reduceLimits s st n e .1; is-bytes = bs; fits = l }
+
+-- A list that starts with f, copied over the first bytes of another.
+overwritten : (f rest w old new : List ℕ) → w ≡ f ++ rest → Moved w 0 (length f) old new 0 → length new ≡ length old → length f ≤ length old → new ≡ f ++ drop (length f) old
+overwritten f rest w old new e m n l = ext-getD 0 new (f ++ drop (length f) old) lengths same
+  where
+    lengths : length new ≡ length (f ++ drop (length f) old)
+    lengths = omega (arith, n, length-append f (drop (length f) old), length-drop (length f) old)
+
+    same : (i : ℕ) → i < length new → getD new i 0 ≡ getD (f ++ drop (length f) old) i 0
+    same i h = ⊎-elim low high (lt-or-le i (length f))
+      where
+        low : i < length f → getD new i 0 ≡ getD (f ++ drop (length f) old) i 0
+        low x =
+            copied-at (m .there) i i i (omega arith) (omega arith) x
+            ∙ ap (λ (v : List ℕ). getD v i 0) e
+            ∙ List·getD-append f rest 0 i x
+            ∙ sym (List·getD-append f (drop (length f) old) 0 i x)
+
+        high : length f ≤ i → getD new i 0 ≡ getD (f ++ drop (length f) old) i 0
+        high x =
+            let y : i ≡ length f + (i - length f) = omega arith in
+            m .above .same i (omega arith)
+            ∙ ap (λ (j : ℕ). getD old j 0) y
+            ∙ sym (getD-drop (length f) old (i - length f) 0)
+            ∙ sym (getD-append-add f (drop (length f) old) (i - length f) 0)
+            ∙ ap (λ (j : ℕ). getD (f ++ drop (length f) old) j 0) (sym y)
+
+module _ {s : List ℕ} {count settings : ℕ} {old : List ℕ} (g : GivenFile s count settings old) where
+  pub count-bounds : (1 ≤ count) × (count ≤ 2000) × (length s ≡ 8 + 16 * count)
+  count-bounds = let k = counted-parts (reduceLimits .records) s (passed reduceLimits s (g .accepted-is) .counted) in omega (arith, g .count-is, k .some, k .few, k .long)
+
+  file : Accepted reduceLimits s
+  file = accepted reduceLimits s (g .is-bytes) (g .accepted-is)
+
+  no-number : number s (length old) ≡ 0
+  unfolding number
+  no-number = rw (g .accepted-is, le-ltb (length old) (8 + 16 * (2 * countOf s - 1)) (omega (arith, g .fits, g .count-is)))
+
+  formed-root : formed (one (treeOf s)) ≡ true
+  unfolding wellFormed formed
+  formed-root =
+      let w = and-right (kind.isExpression (treeOf s .head .kind)) (nodeOk (treeOf s .head) (treeOf s .kids) && formed (treeOf s .kids)) (file .permitted .well) in
+      and-both (and-left (nodeOk (treeOf s .head) (treeOf s .kids)) (formed (treeOf s .kids)) w) (and-both (and-right (nodeOk (treeOf s .head) (treeOf s .kids)) (formed (treeOf s .kids)) w) refl)
+
+  root-input : Input s 0 count 64 (one (treeOf s))
+  root-input = record {
+    holds = record { stands = file .stands; sized = omega (arith, g .count-is, file .sized) };
+    ok = formed-root;
+    low = omega (arith, file .permitted .low);
+    inside = omega (arith, count-bounds);
+    small = omega (arith, count-bounds);
+  }
+
+  pub root-given : {room : ℕ} → 8 + 16 * (2 * count - 1) ≤ room → GivenTree s 0 count 64 0 room
+  root-given l = record { tree = treeOf s; input = root-input; fits = omega (arith, count-bounds); small = omega (arith, count-bounds) }
+
+  root-wrote : {work work′ : List ℕ} {end : ℕ} → ReducedTree s 0 count 64 (settingsWith settings) work work′ 0 end → Wrote work work′ 0 end (left s)
+  unfolding left
+  root-wrote {work} {work′} {end} a = subst (λ (x : ℕ). Wrote work work′ 0 end (reduce (settingsWith x) (treeOf s))) (g .settings-is) (a .by (treeOf s) root-input)
+
+  pub end-few : {work work′ : List ℕ} {end : ℕ} → ReducedTree s 0 count 64 (settingsWith settings) work work′ 0 end → end ≤ 2 * count - 1
+  end-few a = omega (arith, root-wrote a .spans .ends, promises s (g .is-bytes) (g .accepted-is) .few, g .count-is)
+
+  pub removable : {work work′ : List ℕ} {end : ℕ} → ReducedTree s 0 count 64 (settingsWith settings) work work′ 0 end → end ≡ 0 → Answers s old old Removable
+  unfolding rewritten
+  removable {work} {work′} {end} a z = go (left s) refl (root-wrote a)
+    where
+      go : (l : List Tree) → left s ≡ l → Wrote work work′ 0 end (left s) → Answers s old old Removable
+      go [] x w = record { answer = rw (no-number, x); bytes = rw (no-number, x); promised = λ q. promises s (g .is-bytes) (g .accepted-is) }
+      go (t ∷ ts) x w = absurd (omega (arith, w .spans .ends, ap (λ (l : List Tree). records (forest l)) x))
+
+  -- What was kept, its header written, is the bytes of the rewritten file.
+  module _ {work mid work′ : List ℕ} {end : ℕ} (a : ReducedTree s 0 count 64 (settingsWith settings) work mid 0 end) (h : Headed s mid work′ end) (bs : Bytes work′) (long : 8 + 16 * end ≤ length work′) where
+    mark-is : markOk work′ ≡ true
+    unfolding markOk
+    mark-is =
+        let m = passed reduceLimits s (g .accepted-is) .mark in
+        let x = and-right (leb 8 (length s)) (eqb (getD s 0 0) 85 && (eqb (getD s 1 0) 88 && eqb (getD s 2 0) 84)) m in
+        and-both (le-leb 8 (length work′) (omega arith)) (rw (h .same 0 (omega arith), h .same 1 (omega arith), h .same 2 (omega arith)) x)
+
+    version-is : versionOk work′ ≡ true
+    unfolding versionOk u16At
+    version-is = rw (h .same 3 (omega arith), h .same 4 (omega arith)) (passed reduceLimits s (g .accepted-is) .version)
+
+    file-is : (t : Tree) → left s ≡ t ∷ [] → work′ ≡ fileBytes (settingsOf s) t ++ drop (start end) work′
+    unfolding fileBytes
+    file-is t x =
+        let w : Wrote work mid 0 end (t ∷ []) = rw x at (root-wrote a) in
+        let z : end ≡ size t = omega (arith, w .spans .ends) in
+        let d = spans-copied 0 (w .spans) (kept-copied 8 (16 * records (forest (t ∷ []))) (omega arith) (h .above)) in
+        header-is work′ bs mark-is version-is
+        ∙ ap (λ (y : ℕ). header y (countOf work′) (drop 8 work′)) (h .same 5 (omega arith))
+        ∙ ap (λ (y : ℕ). header (settingsOf s) y (drop 8 work′)) (h .counts ∙ z)
+        ∙ ap (header (settingsOf s) (size t)) (bytes-stand work′ bs (one t) 0 end (d .stands) (omega arith) (omega arith))
+
+    file-long : (t : Tree) → left s ≡ t ∷ [] → length (fileBytes (settingsOf s) t) ≡ 8 + 16 * end
+    unfolding fileBytes
+    file-long t x =
+        let w : Wrote work mid 0 end (t ∷ []) = rw x at (root-wrote a) in
+        omega (arith, length-bytes (one t), w .spans .ends)
+
+    pub kept : {new : List ℕ} → (end ≡ 0 → ⊥) → Moved work′ 0 (8 + 16 * end) old new 0 → length new ≡ length old → Answers s old new (Kept (8 + 16 * end))
+    unfolding rewritten
+    kept {new} n m l = go (left s) refl (promises s (g .is-bytes) (g .accepted-is) .at-most-one)
+      where
+        go : (ts : List Tree) → left s ≡ ts → length (left s) ≤ 1 → Answers s old new (Kept (8 + 16 * end))
+        go [] x o = absurd (n (omega (arith, root-wrote a .spans .ends, ap (λ (r : List Tree). records (forest r)) x)))
+        go (t ∷ []) x o =
+            let z = file-long t x in
+            record {
+              answer = rw (no-number, x, z);
+              bytes = rw (no-number, x)
+                  (overwritten (fileBytes (settingsOf s) t) (drop (start end) work′) work′ old new (file-is t x) (rw (← z) at m) l
+                  (omega (arith, z, g .fits, end-few a, count-bounds)));
+              promised = λ q. promises s (g .is-bytes) (g .accepted-is);
+            }
+        go (t ∷ u ∷ us) x o = absurd (omega (arith, o, ap length x))

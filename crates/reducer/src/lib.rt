@@ -1,0 +1,76 @@
+// Reduce: what is left of a tree file's expression once its value is not used.
+mod close;
+mod expression;
+mod header;
+mod walk;
+
+use file::Checked;
+ghost use Prim.Native.Nat.{_+_, _*_, _-_, _≤_};
+ghost use lib.ListN.{length};
+ghost use Rattle.reducer.specs.Answer.{Answers};
+ghost use Rattle.reducer.specs.Run.{GivenFile};
+
+pub enum Reduced {
+    // The number of the first refusal that applies; no byte of the output has changed.
+    Refused(u8),
+    // Nothing is left, and no byte of the output has changed.
+    Removable,
+    // The length of the rewritten file: the first bytes of the output are it, and no other byte has changed.
+    Kept(usize),
+}
+
+// Reduces the tree file src into out.
+pub fn reduce(src: &[u8], out: &mut [u8]) -> Reduced
+    ensures { λ r. ⌜ Answers (now (src .entry)) (now (out .entry)) (now (out .exit)) r ⌝ }
+{
+    let checked = file::check(src, file::REDUCE_RECORDS, file::REDUCE_DEPTH);
+    match checked {
+        Checked::Refused(number) => Reduced::Refused(number),
+        Checked::Accepted { settings, count } => {
+            if out.len() < 8 + 16 * (2 * count - 1) {
+                return Reduced::Refused(9);
+            }
+            reduce_by_size(src, count, settings, out)
+        }
+    }
+}
+
+// What is left is worked out in a buffer of its own, since a list may turn out shorter than the records left free for it, and then
+// copied. The buffer is the smallest of three that has room: to fill the largest would cost a small tree more than its reduction.
+fn reduce_by_size(src: &[u8], count: usize, settings: u8, out: &mut [u8]) -> Reduced
+    requires { ⌜ GivenFile (now src) count settings (now out) ⌝ }
+    ensures { λ r. ⌜ Answers (now (src .entry)) (now (out .entry)) (now (out .exit)) r ⌝ }
+{
+    if count <= 32 {
+        let mut work = [0u8; 1016];
+        return reduce_in(src, count, settings, &mut work, out);
+    }
+    if count <= 256 {
+        let mut work = [0u8; 8184];
+        return reduce_in(src, count, settings, &mut work, out);
+    }
+    let mut work = [0u8; 63992];
+    reduce_in(src, count, settings, &mut work, out)
+}
+
+fn reduce_in(src: &[u8], count: usize, settings: u8, work: &mut [u8], out: &mut [u8]) -> Reduced
+    requires { ⌜ GivenFile (now src) count settings (now out) × (8 + 16 * (2 * count - 1) ≤ length (now work)) ⌝ }
+    ensures { λ r. ⌜ Answers (now (src .entry)) (now (out .entry)) (now (out .exit)) r ⌝ }
+{
+    let end = expression::remove_unused_expression(
+        src,
+        0,
+        count,
+        file::REDUCE_DEPTH,
+        settings,
+        work,
+        0,
+    );
+    if end == 0 {
+        return Reduced::Removable;
+    }
+    header::write_header(src, work, end);
+    let length = 8 + 16 * end;
+    output::copy_bytes(work, 0, length, out, 0);
+    Reduced::Kept(length)
+}

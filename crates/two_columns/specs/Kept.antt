@@ -1,0 +1,140 @@
+-- What is left of a file, as List effects takes it: a file, or nothing.
+use mathlib.Core.Path.{_≡_, refl, sym, ap, _∙_}
+use mathlib.Core.Bool.{cond}
+use mathlib.Core.List.{List, [], _∷_, _++_}
+use Prim.Native.Nat.{ℕ, _+_, _*_, _<_, _≤_}
+use native.Mathlib.Nat.{zero-add}
+use native.Mathlib.Omega.{arith}
+use lib.Dec.{ltb}
+use lib.ListN.{length, drop}
+use lib.Seq.{sets-eq}
+use borrow.Author.Tests.{lt-ltb, le-ltb}
+use Rattle.tree.specs.Tree.{Tree, forest, records, size}
+use Rattle.tree.specs.Fields.{countOf}
+use Rattle.tree.specs.Refusal.{reduceLimits, listEffectsLimits, refusal}
+use Rattle.tree.specs.Encoding.{Bytes}
+use Rattle.tree.specs.Accepted.{passed, counted-parts, accepted, wider}
+use Rattle.stated.specs.Stated.{Stated, refused, answered}
+use Rattle.stated.specs.Wrote.{Wrote, wrote-none, wrote-as}
+use Rattle.effects.specs.Answer.{stated, number, effectList, Answers, count-within}
+use Rattle.effects.specs.declared.Listed.{Listed}
+use Rattle.effects.specs.declared.Listed.the-variants.{Refused, Count}
+use Rattle.reducer.specs.Answer.{left, rewritten, answerList, Promised}
+
+-- The effects of a file; none where nothing is left.
+abbrev pub effectsOf : List ℕ → List ℕ
+effectsOf [] = []
+effectsOf (b ∷ bs) = effectList (b ∷ bs)
+
+unfoldable pub recordsOf : List ℕ → ℕ
+recordsOf s = cond (ltb (length s) 8) 0 (countOf s)
+
+-- Nothing, or a file that List effects accepts with so many entries lent.
+pub record GivenList (s : List ℕ) (room : ℕ) : Type 0 where
+  pub taken : 0 < length s → number s room ≡ 0
+
+-- An accepted file, what is left of it, and room for the longest text.
+pub record GivenTable (s kept : List ℕ) (room : ℕ) : Type 0 where
+  pub accepted-is : refusal reduceLimits s ≡ 0
+  pub promised : Promised s
+  pub kept-is : kept ≡ rewritten s
+  pub fits : 384000 ≤ room
+
+listed : (s : List ℕ) (room : ℕ) → refusal listEffectsLimits s ≡ 0 → 2 * countOf s ≤ room → number s room ≡ 0
+unfolding number
+listed s room e l = rw (e, le-ltb room (2 * countOf s) l)
+
+effects-some : (s : List ℕ) → 0 < length s → effectsOf s ≡ effectList s
+effects-some [] l = absurd (omega arith)
+effects-some (b ∷ bs) l = refl
+
+records-some : (s : List ℕ) → 8 ≤ length s → recordsOf s ≡ countOf s
+unfolding recordsOf
+records-some s l = rw (le-ltb (length s) 8 l)
+
+-- The file itself.
+module _ (s : List ℕ) (e : refusal reduceLimits s ≡ 0) where
+  long : 8 ≤ length s
+  long = omega (arith, counted-parts 2000 s (passed reduceLimits s e .counted) .long)
+
+  pub file-taken : GivenList s 4000
+  file-taken = record { taken = λ z. listed s 4000 (wider reduceLimits listEffectsLimits (omega arith) (omega arith) s e) (omega (arith, counted-parts 2000 s (passed reduceLimits s e .counted) .few)) }
+
+  pub file-effects : effectsOf s ≡ effectList s
+  file-effects = effects-some s (omega (arith, long))
+
+  pub file-records : recordsOf s ≡ countOf s
+  file-records = records-some s long
+
+-- What is left of it.
+module _ (s : List ℕ) (p : Promised s) where
+  pub kept-taken : GivenList (rewritten s) 7998
+  unfolding rewritten
+  kept-taken = go (left s) refl
+    where
+      go : (ts : List Tree) → left s ≡ ts → GivenList (rewritten s) 7998
+      go [] x = record { taken = λ z. absurd (omega (arith, rw x at z)) }
+      go (t ∷ []) x =
+          let e = p .kept-file t x .is-listed in
+          record { taken = λ z. listed (rewritten s) 7998 e (omega (arith, counted-parts 3999 (rewritten s) (passed listEffectsLimits (rewritten s) e .counted) .few)) }
+      go (t ∷ u ∷ us) x = absurd (omega (arith, p .at-most-one, ap length x))
+
+  pub kept-effects : effectsOf (rewritten s) ≡ answerList s
+  unfolding rewritten answerList
+  kept-effects = go (left s) refl
+    where
+      go : (ts : List Tree) → left s ≡ ts → effectsOf (rewritten s) ≡ answerList s
+      go [] x = rw x refl
+      go (t ∷ []) x =
+          let e = p .kept-file t x .is-listed in
+          effects-some (rewritten s) (omega (arith, counted-parts 3999 (rewritten s) (passed listEffectsLimits (rewritten s) e .counted) .long)) ∙ sym (rw x refl)
+      go (t ∷ u ∷ us) x = absurd (omega (arith, p .at-most-one, ap length x))
+
+  pub kept-records : Bytes (rewritten s) → recordsOf (rewritten s) ≡ records (forest (left s))
+  unfolding rewritten recordsOf
+  kept-records bs = go (left s) refl
+    where
+      go : (ts : List Tree) → left s ≡ ts → recordsOf (rewritten s) ≡ records (forest (left s))
+      go [] x = rw x refl
+      go (t ∷ []) x =
+          let k = p .kept-file t x in
+          let e = k .is-listed in
+          records-some (rewritten s) (omega (arith, counted-parts 3999 (rewritten s) (passed listEffectsLimits (rewritten s) e .counted) .long))
+          ∙ sym (accepted listEffectsLimits (rewritten s) bs e .sized)
+          ∙ ap size (k .tree-is)
+          ∙ rw x (omega arith)
+      go (t ∷ u ∷ us) x = absurd (omega (arith, p .at-most-one, ap length x))
+
+-- What the functions of the table return.
+pub records-none : (s : List ℕ) → length s < 8 → 0 ≡ recordsOf s
+unfolding recordsOf
+records-none s l = sym (rw (lt-ltb (length s) 8 l) refl)
+
+pub records-read : (s : List ℕ) {r : ℕ} → 8 ≤ length s → r ≡ countOf s → r ≡ recordsOf s
+records-read s l e = e ∙ sym (records-some s l)
+
+effects-none : (s : List ℕ) → length s ≡ 0 → [] ≡ effectsOf s
+effects-none [] e = refl
+effects-none (b ∷ bs) e = absurd (omega (arith, e))
+
+pub listed-none : (s : List ℕ) {old : List ℕ} → length s ≡ 0 → Wrote old old 0 0 (effectsOf s) × (0 ≤ length old)
+listed-none s {old} e = (wrote-as (wrote-none old 0) (effects-none s e), omega arith)
+
+-- A file that is accepted is not refused: what stands behind that test is never reached.
+module _ {s old new : List ℕ} {r : Listed} (z : number s (length old) ≡ 0) (a : Answers s old new r) where
+  pub listed-accepted : {n : ℕ} → r ≡ Refused n → ⊥
+  listed-accepted {n} e =
+      let x : refused n ≡ answered (length (effectList s) ∷ []) = ap stated (sym e) ∙ a .answer ∙ rw z refl in
+      let values : [] ≡ length (effectList s) ∷ [] = ap (λ (y : Stated). y .values) x in
+      let lengths : _≡_ {A = ℕ} 0 1 = ap length values in
+      omega arith
+
+  pub listed-count : {n : ℕ} → 0 < length s → length new ≡ length old → r ≡ Count n → Wrote old new 0 n (effectsOf s) × (n ≤ length old)
+  listed-count {n} l same e =
+      let x : answered (n ∷ []) ≡ answered (length (effectList s) ∷ []) = ap stated (sym e) ∙ a .answer ∙ rw z refl in
+      let values : n ∷ [] ≡ length (effectList s) ∷ [] = ap (λ (y : Stated). y .values) x in
+      let counted : n ≡ length (effectList s) = cc in
+      let written : new ≡ effectList s ++ drop (length (effectList s)) old = a .entries ∙ rw z refl in
+      let fits : 0 + length (effectList s) ≤ length old = omega (arith, same, counted, count-within a e) in
+      let set = sets-eq (effectList s) old 0 fits ∙ ap (λ (k : ℕ). effectList s ++ drop k old) (zero-add (length (effectList s))) in
+      (wrote-as (record { ends = omega (arith, counted); entries = written ∙ sym set }) (sym (effects-some s l)), omega (arith, counted))

@@ -1,0 +1,6 @@
+pub mod Columns
+pub mod Kept
+pub mod Lines
+pub mod Rows
+pub mod Run
+pub mod Table

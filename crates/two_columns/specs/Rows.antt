@@ -1,0 +1,80 @@
+-- Rows, from the bytes of a file to the text: document 01's example, a removable tree, a list that ends before the other, a refusal.
+use mathlib.Core.Path.{_≡_, refl}
+use mathlib.Core.List.{List, [], _∷_, map}
+use Prim.Native.Nat.{ℕ}
+use Rattle.text.specs.Ascii.{ascii}
+use Rattle.text.specs.Decimal.{decimal, digits}
+use Rattle.le.specs.Le.{u16At, u32At}
+use Rattle.tree.specs.Tree as tree
+use Rattle.tree.specs.Below as below
+use Rattle.tree.specs.Record as rec
+use Rattle.tree.specs.Children as children
+use Rattle.tree.specs.File as file
+use Rattle.tree.specs.Refusal as refusal
+use Rattle.rules.specs.Settings as Settings
+use Rattle.rules.specs.Handler as Handler
+use Rattle.rules.specs.Facts as Facts
+use Rattle.rules.specs.Made as Made
+use Rattle.rules.specs.Class as Class
+use Rattle.rules.specs.Reduce as Reduce
+use Rattle.rules.specs.Effects as Effects
+use Rattle.effects.specs.Answer as effects
+use Rattle.reducer.specs.Answer as reducer
+use Rattle.two_columns.specs.Columns.{column, line, lines, sideBySide, recordsLine, refusedLine, table, columns}
+
+-- `[1, a(), ...b]`, "array, call and spread flagged": the header, the array, 1, the call, a, the spread, b.
+abbrev example : List ℕ
+example =
+    85 ∷ 88 ∷ 84 ∷ 1 ∷ 0 ∷ 0 ∷ 6 ∷ 0 ∷
+    7 ∷ 1 ∷ 0 ∷ 0 ∷ 3 ∷ 0 ∷ 6 ∷ 0 ∷ 0 ∷ 0 ∷ 0 ∷ 0 ∷ 0 ∷ 0 ∷ 0 ∷ 0 ∷
+    5 ∷ 10 ∷ 0 ∷ 0 ∷ 0 ∷ 0 ∷ 1 ∷ 0 ∷ 1 ∷ 0 ∷ 0 ∷ 0 ∷ 1 ∷ 0 ∷ 0 ∷ 0 ∷
+    16 ∷ 1 ∷ 0 ∷ 0 ∷ 1 ∷ 0 ∷ 2 ∷ 0 ∷ 0 ∷ 0 ∷ 0 ∷ 0 ∷ 4 ∷ 0 ∷ 0 ∷ 0 ∷
+    2 ∷ 0 ∷ 0 ∷ 0 ∷ 0 ∷ 0 ∷ 1 ∷ 0 ∷ 2 ∷ 0 ∷ 0 ∷ 0 ∷ 4 ∷ 0 ∷ 0 ∷ 0 ∷
+    9 ∷ 1 ∷ 0 ∷ 0 ∷ 1 ∷ 0 ∷ 2 ∷ 0 ∷ 0 ∷ 0 ∷ 0 ∷ 0 ∷ 9 ∷ 0 ∷ 0 ∷ 0 ∷
+    2 ∷ 0 ∷ 0 ∷ 0 ∷ 0 ∷ 0 ∷ 1 ∷ 0 ∷ 3 ∷ 0 ∷ 0 ∷ 0 ∷ 12 ∷ 0 ∷ 0 ∷ 0 ∷ []
+
+-- `[]`
+abbrev removable : List ℕ
+removable =
+    85 ∷ 88 ∷ 84 ∷ 1 ∷ 0 ∷ 0 ∷ 1 ∷ 0 ∷
+    7 ∷ 0 ∷ 0 ∷ 0 ∷ 0 ∷ 0 ∷ 1 ∷ 0 ∷ 0 ∷ 0 ∷ 0 ∷ 0 ∷ 0 ∷ 0 ∷ 0 ∷ 0 ∷ []
+
+-- `-a()`, the call flagged and the minus not: its clear flag is read, and is wrong.
+abbrev ended : List ℕ
+ended =
+    85 ∷ 88 ∷ 84 ∷ 1 ∷ 0 ∷ 0 ∷ 3 ∷ 0 ∷
+    14 ∷ 0 ∷ 4 ∷ 0 ∷ 1 ∷ 0 ∷ 3 ∷ 0 ∷ 0 ∷ 0 ∷ 0 ∷ 0 ∷ 0 ∷ 0 ∷ 0 ∷ 0 ∷
+    16 ∷ 1 ∷ 0 ∷ 0 ∷ 1 ∷ 0 ∷ 2 ∷ 0 ∷ 0 ∷ 0 ∷ 0 ∷ 0 ∷ 1 ∷ 0 ∷ 0 ∷ 0 ∷
+    2 ∷ 0 ∷ 0 ∷ 0 ∷ 0 ∷ 0 ∷ 1 ∷ 0 ∷ 1 ∷ 0 ∷ 0 ∷ 0 ∷ 1 ∷ 0 ∷ 0 ∷ 0 ∷ []
+
+-- `a && b`, a kind that is not taken.
+abbrev logical : List ℕ
+logical =
+    85 ∷ 88 ∷ 84 ∷ 1 ∷ 0 ∷ 0 ∷ 3 ∷ 0 ∷
+    20 ∷ 0 ∷ 0 ∷ 0 ∷ 2 ∷ 0 ∷ 3 ∷ 0 ∷ 0 ∷ 0 ∷ 0 ∷ 0 ∷ 0 ∷ 0 ∷ 0 ∷ 0 ∷
+    2 ∷ 0 ∷ 0 ∷ 0 ∷ 0 ∷ 0 ∷ 1 ∷ 0 ∷ 1 ∷ 0 ∷ 0 ∷ 0 ∷ 0 ∷ 0 ∷ 0 ∷ 0 ∷
+    2 ∷ 0 ∷ 0 ∷ 0 ∷ 0 ∷ 0 ∷ 1 ∷ 0 ∷ 2 ∷ 0 ∷ 0 ∷ 0 ∷ 5 ∷ 0 ∷ 0 ∷ 0 ∷ []
+
+record Row : Type 0 where
+  file : List ℕ
+  text : List ℕ
+
+abbrev rows : List Row
+rows =
+    record { file = example; text = ascii "before after\n4/16/0 4/16/0\n9/9/0 9/9/0\nrecords 6 5\n" } ∷
+    record { file = removable; text = ascii "before after\nrecords 1 0\n" } ∷
+    record { file = ended; text = ascii "before after\n1/16/0 -\nrecords 3 0\n" } ∷
+    record { file = logical; text = ascii "refused 6\n" } ∷ []
+
+pub rows-hold : map (λ r. columns (r .file)) rows ≡ map (λ r. r .text) rows
+unfolding columns table sideBySide lines line column recordsLine refusedLine decimal digits u16At u32At tree.recur tree.each below.allBelow
+    rec.allowedFacts rec.bitsWithin rec.pairsOk rec.literalOk rec.factsOk rec.elementSubOk rec.subOk rec.recordOk rec.included
+    children.childCountOk children.mayStand file.fileBytes file.preorder file.bytes
+    refusal.markOk refusal.versionOk refusal.settingsOk refusal.countOk refusal.recordsOk refusal.allIncluded refusal.childrenEnd
+    refusal.shapeAt refusal.shapeOk refusal.decode refusal.treeOf refusal.depthOk refusal.refusal
+    Settings.annotations Settings.treeShakeOnly Handler.handler Handler.isKind
+    Facts.flagged Facts.possibleSymbol Facts.annotated Facts.listed Facts.summaryFree Facts.pureNew Facts.pureCall
+    Facts.hasSideEffectsOrPreservedIife Made.withChildren Class.hasStaticValue Class.nonemptyStaticBlock Reduce.reduceRule Reduce.reduce
+    Effects.itself Effects.evaluateRule Effects.evaluate Effects.effects
+    effects.effectList reducer.left reducer.rewritten reducer.answerList
+rows-hold = refl

@@ -1,0 +1,113 @@
+-- From Reduce's answer to the text.
+use mathlib.Core.Path.{_≡_, refl, sym, ap, ap₂, _∙_}
+use mathlib.Core.Bool.{false}
+use mathlib.Core.List.{List, [], _∷_, _++_}
+use Prim.Native.Nat.{ℕ, zero, suc, _+_, _*_, _-_, _≤_}
+use native.Mathlib.Omega.{arith}
+use lib.Dec.{ltb}
+use lib.ListN.{length, take, drop, replicate, length-append, length-replicate}
+use lib.Seq.{take-append-seam}
+use borrow.Author.Tests.{le-ltb}
+use Rattle.stated.specs.Stated.{Stated, refused, answered}
+use Rattle.stated.specs.Wrote.{Wrote}
+use Rattle.tree.specs.Fields.{countOf}
+use Rattle.tree.specs.Refusal.{reduceLimits, refusal}
+use Rattle.tree.specs.Accepted.{passed, counted-parts}
+use Rattle.reducer.specs.Answer.{stated, number, numberBy, left, rewritten, statedOf, bytesOf, Promised, Answers}
+use Rattle.reducer.specs.declared.Reduced.{Reduced}
+use Rattle.reducer.specs.declared.Reduced.the-variants.{Refused, Removable, Kept}
+use Rattle.two_columns.specs.Columns.{columns, columnsBy, table, refusedLine, Printed}
+use Rattle.two_columns.specs.Kept.{GivenTable}
+use Rattle.two_columns.specs.Table.{set-front}
+
+pub lent : length (replicate {A = ℕ} 63992 0) ≡ 63992
+lent = length-replicate {A = ℕ} 63992 0
+
+-- As much is lent as Reduce may need, so it never refuses with 9.
+number-is : (s : List ℕ) → number s 63992 ≡ refusal reduceLimits s
+unfolding number
+number-is s = go (refusal reduceLimits s) refl
+  where
+    go : (k : ℕ) → refusal reduceLimits s ≡ k → numberBy k (ltb 63992 (8 + 16 * (2 * countOf s - 1))) ≡ k
+    go zero e =
+        let enough : ltb 63992 (8 + 16 * (2 * countOf s - 1)) ≡ false =
+        le-ltb 63992 (8 + 16 * (2 * countOf s - 1)) (omega (arith, counted-parts 2000 s (passed reduceLimits s e .counted) .few)) in
+        rw enough refl
+    go (suc k) e = refl
+
+-- The text, from what is written.
+printed : (s : List ℕ) {old new l : List ℕ} {r : ℕ} → l ≡ columns s → Wrote old new 0 r l × (r ≤ length old) → Printed s old new r
+printed s {old} {new} {l} {r} e w =
+    let ends : r ≡ length l = omega (arith, w .0 .ends) in
+    record { ends = ends ∙ ap length e; bytes = set-front w ∙ ap (λ (x : List ℕ). x ++ drop (length x) old) e }
+
+module _ {s old new : List ℕ} {reduced : Reduced} (room : length old ≡ 63992) (a : Answers s old new reduced) where
+  number-zero : number s (length old) ≡ refusal reduceLimits s
+  number-zero = ap (number s) room ∙ number-is s
+
+  answer : stated reduced ≡ statedOf (refusal reduceLimits s) s
+  answer = a .answer ∙ ap (λ (k : ℕ). statedOf k s) number-zero
+
+  -- What is answered of an accepted file has values, and a refusal has none.
+  is-accepted : {v : ℕ} {vs : List ℕ} → stated reduced ≡ answered (v ∷ vs) → refusal reduceLimits s ≡ 0
+  is-accepted {v} {vs} e = go (refusal reduceLimits s) (sym e ∙ answer)
+    where
+      go : (k : ℕ) → answered (v ∷ vs) ≡ statedOf k s → k ≡ 0
+      go zero x = refl
+      go (suc k) x =
+          let values : v ∷ vs ≡ [] = ap (λ (y : Stated). y .values) x in
+          let lengths : suc (length vs) ≡ 0 = ap length values in
+          absurd (omega arith)
+
+  -- The length that is answered is that of what is left.
+  length-is : {k n : ℕ} → stated reduced ≡ answered (k ∷ n ∷ []) → n ≡ length (rewritten s)
+  length-is {k} {n} e =
+      let x : answered (k ∷ n ∷ []) ≡ answered (length (left s) ∷ length (rewritten s) ∷ []) =
+      sym e ∙ answer ∙ ap (λ (j : ℕ). statedOf j s) (is-accepted e) in
+      let values : k ∷ n ∷ [] ≡ length (left s) ∷ length (rewritten s) ∷ [] = ap (λ (y : Stated). y .values) x in
+      cc
+
+  pub printed-table : {v : ℕ} {vs lent text : List ℕ} {r : ℕ} → stated reduced ≡ answered (v ∷ vs) → Wrote lent text 0 r (table s) × (r ≤ length lent) → Printed s lent text r
+  unfolding columns
+  printed-table e w = printed s (sym (ap (λ (k : ℕ). columnsBy k s) (is-accepted e))) w
+
+  promised-is : refusal reduceLimits s ≡ 0 → Promised s
+  promised-is z = a .promised (number-zero ∙ z)
+
+  none : (l : List ℕ) → 0 ≡ length l → [] ≡ l
+  none [] e = refl
+  none (x ∷ l) e = absurd (omega (arith, e))
+
+  pub given-removable : {fits : ℕ} → reduced ≡ Removable → 384000 ≤ fits → GivenTable s [] fits
+  given-removable e f =
+      let z = is-accepted (ap stated e) in
+      record { accepted-is = z; promised = promised-is z; kept-is = none (rewritten s) (length-is (ap stated e)); fits = f }
+
+  module _ {n : ℕ} (e : reduced ≡ Kept n) where
+    written : new ≡ rewritten s ++ drop (length (rewritten s)) old
+    written = a .bytes ∙ ap (λ (k : ℕ). bytesOf k s old) (number-zero ∙ is-accepted (ap stated e))
+
+    pub given-kept : {fits : ℕ} → 384000 ≤ fits → GivenTable s (take n new) fits
+    given-kept f =
+        let z = is-accepted (ap stated e) in
+        record {
+          accepted-is = z;
+          promised = promised-is z;
+          kept-is = ap₂ take (length-is (ap stated e)) written ∙ take-append-seam (rewritten s) (drop (length (rewritten s)) old);
+          fits = f;
+        }
+
+  pub printed-refusal : {n : ℕ} {lent text : List ℕ} {r : ℕ} → reduced ≡ Refused n → Wrote lent text 0 r (refusedLine n) × (r ≤ length lent) → Printed s lent text r
+  unfolding columns
+  printed-refusal {n} e w = printed s (go (refusal reduceLimits s) (ap stated (sym e) ∙ answer)) w
+    where
+      go : (k : ℕ) → refused n ≡ statedOf k s → refusedLine n ≡ columnsBy k s
+      go zero x =
+          let values : [] ≡ length (left s) ∷ length (rewritten s) ∷ [] = ap (λ (y : Stated). y .values) x in
+          let lengths : 0 ≡ suc (suc zero) = ap length values in
+          absurd (omega arith)
+      go (suc k) x = ap (λ (y : Stated). refusedLine (y .number)) x
+
+-- The text stands within the bytes lent.
+pub printed-within : {s old new : List ℕ} {r : ℕ} → Printed s old new r → r ≤ length new
+printed-within {s} {old} p = omega (arith, p .ends, ap length (p .bytes), length-append (columns s) (drop (length (columns s)) old))
