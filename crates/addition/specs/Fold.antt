@@ -5,10 +5,10 @@ use mathlib.Core.List.{List, [], _∷_}
 use Prim.Native.Nat.{ℕ, _+_, _-_, _<_, _≤_}
 use native.Mathlib.Omega.{arith}
 use lib.Dec.{eqb}
-use lib.ListN.{length}
 use borrow.Author.Tests.{eq-eqb, ne-eqb}
 use Rattle.tree.specs.Tree.{Head, Tree, forest, one, records, size, recur-is, forest-trees}
-use Rattle.tree.specs.Fields.{start, headAt, subtreeAt}
+use Rattle.tree.specs.Room.{recordsIn}
+use Rattle.tree.specs.Fields.{headAt, subtreeAt}
 use Rattle.tree.specs.Kind as kind
 use Rattle.rules.specs.Lists.{keepIf}
 use Rattle.rules.specs.Handler.{isKind, isLiteral, isAddition}
@@ -95,7 +95,7 @@ module _ {s : List ℕ} {at : ℕ} (size : ℕ) (b : Bool) (p : Tells s at isAdd
     abbrev S : SidesAt s at size (g .depth) (g .tree)
     S = sum-at (g .tree) (g .input)
 
-    pub left-inside : start (at + 1 + 1) ≤ length s
+    pub left-inside : at + 1 + 1 ≤ recordsIn s
     left-inside = omega (arith, S .left-in .inside, some-size (S .left-in))
 
     module _ (z : ℕ) (ez : z ≡ subtreeAt s (at + 1)) where
@@ -105,11 +105,11 @@ module _ {s : List ℕ} {at : ℕ} (size : ℕ) (b : Bool) (p : Tells s at isAdd
       pub left-given : GivenTree s (at + 1) z (pos + 1) room
       left-given = rw ez (record { tree = S .l; depth = g .depth - 1; input = S .left-in; fits = omega (arith, g .fits, S .sized) })
 
-      pub right-inside : start (at + 1 + z + 1) ≤ length s
+      pub right-inside : at + 1 + z + 1 ≤ recordsIn s
       right-inside = omega (arith, ez, S .right-in .inside, some-size (S .right-in))
 
       -- What `fold_sides` is given.
-      pub sides-given : {old mid : List ℕ} {next : ℕ} {string : Bool} → Folds s (at + 1) z old mid (pos + 1) next string → (y : ℕ) → y ≡ subtreeAt s (at + 1 + z) → length mid ≡ room
+      pub sides-given : {old mid : List ℕ} {next : ℕ} {string : Bool} → Folds s (at + 1) z old mid (pos + 1) next string → (y : ℕ) → y ≡ subtreeAt s (at + 1 + z) → room ≡ recordsIn old
           → GivenSides s at (at + 1 + z) y mid pos next
       sides-given {old} {mid} {next} {string} f y ey l =
           let f′ : Folds s (at + 1) (subtreeAt s (at + 1)) old mid (pos + 1) next string = rw ez at f in
@@ -117,12 +117,12 @@ module _ {s : List ℕ} {at : ℕ} (size : ℕ) (b : Bool) (p : Tells s at isAdd
           let small = fold-size (S .l) in
           rw (ey, ez) (record {
             head-inside = omega (arith, g .input .inside, some-size (g .input));
-            left = record { tree = foldStringAdditionChain (S .l); spans = w .spans; inside = omega (arith, w .spans .ends, S .left-in .holds .sized, S .sized, g .fits) };
+            left = record { tree = foldStringAdditionChain (S .l); spans = w .spans; inside = omega (arith, w .spans .ends, S .left-in .holds .sized, S .sized, g .fits, l, w .frame .room) };
             right-given = record {
               tree = S .r;
               depth = g .depth - 1;
               input = S .right-in;
-              fits = omega (arith, w .spans .ends, S .left-in .holds .sized, S .sized, g .fits);
+              fits = omega (arith, l, w .frame .room, w .spans .ends, S .left-in .holds .sized, S .sized, g .fits);
             };
             small = omega (arith, w .spans .ends, S .left-in .holds .sized, S .sized, g .input .small);
           })
@@ -157,6 +157,10 @@ module _ {s : List ℕ} {at : ℕ} (size : ℕ) (b : Bool) (p : Tells s at isAdd
       by = sum-wrote;
       is = λ t depth i. (rw ez at q) .by (sum-at t i .r) (input-node (sum-at t i .right-in)) ∙ sym (sum-string t depth i ∙ rw e);
     }
+
+pub folds-room : {s : List ℕ} {at size pos room : ℕ} {old new : List ℕ} {next : ℕ} {string : Bool} → GivenTree s at size pos room → Folds s at size old new pos next string
+    → recordsIn new ≡ recordsIn old
+folds-room g f = f .by (g .tree) (g .depth) (g .input) .frame .room
 
 -- What is left of an addition, by the kind k that the fold's record says.
 module _ {s : List ℕ} {at size : ℕ} {old new : List ℕ} {pos next : ℕ} {string : Bool} (f : Folds s at size old new pos next string) (k : ℕ) (e : k ≡ headAt new pos .kind) where

@@ -2,11 +2,11 @@
 use mathlib.Core.Path.{_≡_, refl, sym, ap, _∙_}
 use mathlib.Core.Bool.{Bool, true, false, cond, not}
 use mathlib.Core.List.{List, [], _∷_}
-use Prim.Native.Nat.{ℕ, _+_, _*_, _-_, _<_, _≤_}
+use Prim.Native.Nat.{ℕ, _+_, _-_, _<_, _≤_}
 use native.Mathlib.Omega.{arith}
-use lib.ListN.{length}
-use Rattle.tree.specs.Tree.{Head, Tree, forest, one, records, size}
-use Rattle.tree.specs.Fields.{start, headAt}
+use Rattle.tree.specs.Tree.{Place, Head, Tree, forest, one, records, size}
+use Rattle.tree.specs.Room.{recordsIn}
+use Rattle.tree.specs.Fields.{headAt}
 use Rattle.tree.specs.Kind as kind
 use Rattle.rules.specs.Facts.{flagged, possibleSymbol, stringFact, isString}
 use Rattle.rules.specs.Made.{placeOf, madeHead, emptyLiteral, withChildren}
@@ -14,7 +14,7 @@ use Rattle.rules.specs.Addition.{emptiedUnlessFlagged, isDroppedRight, foldSide
 use Rattle.rules.specs.Proofs.Lists.{by-cond}
 use Rattle.readings.specs.Node.{Tells}
 use Rattle.readings.specs.Input.{Input, input-node}
-use Rattle.output.specs.Bytes.{Shifted, Recorded, agree-all, agree-less, agree-trans}
+use Rattle.output.specs.Records.{MovedRecords, Recorded, before-all, before-less, before-trans}
 use Rattle.output.specs.Trees.{Spans, Wrote, CopiedTree, spans-copied, wrote-both, wrote-over, wrote-as, recorded-node}
 use Rattle.output.specs.Lists.{first-node}
 use Rattle.output.specs.Given.{GivenTree, copied-wrote}
@@ -23,7 +23,7 @@ use Rattle.output.specs.Given.{GivenTree, copied-wrote}
 pub record GivenOne (s : List ℕ) (at next : ℕ) : Type 0 where
   pub tree : Tree
   pub spans : Spans s at next (tree ∷ [])
-  pub inside : start next ≤ length s
+  pub inside : next ≤ recordsIn s
 
 -- The tree that stood there became the empty literal, unless it is flagged.
 pub record Emptied (old new : List ℕ) (at next r : ℕ) : Type 0 where
@@ -38,9 +38,9 @@ pub record RightFolded (s : List ℕ) (at size : ℕ) (old new : List ℕ) (pos 
 
 -- The left side stands in the buffer behind record pos, up to record next; the right side is the tree at record `right` of s.
 pub record GivenSides (s : List ℕ) (at right size : ℕ) (out : List ℕ) (pos next : ℕ) : Type 0 where
-  pub head-inside : start (at + 1) ≤ length s
+  pub head-inside : at + 1 ≤ recordsIn s
   pub left : GivenOne out (pos + 1) next
-  pub right-given : GivenTree s right size next (length out)
+  pub right-given : GivenTree s right size next (recordsIn out)
   pub small : next + size < pos + 65536
 
 -- Whatever addition the head is of, and whatever its sides are, its fold was written from record pos to record r.
@@ -53,7 +53,7 @@ unfolding emptiedUnlessFlagged emptyLiteral
 emptied-size x = by-cond (λ y. size y ≤ size x) (flagged x) x (emptyLiteral (placeOf x)) (λ _. omega arith) (λ _. omega arith)
 
 module _ {old : List ℕ} {at next : ℕ} (g : GivenOne old at next) where
-  pub one-inside : start (at + 1) ≤ length old
+  pub one-inside : at + 1 ≤ recordsIn old
   one-inside = omega (arith, g .inside, g .spans .ends)
 
   module _ (b : Bool) (p : Tells old at flagged b) where
@@ -63,15 +63,15 @@ module _ {old : List ℕ} {at next : ℕ} (g : GivenOne old at next) where
     pub flagged-stays : b ≡ true → Emptied old old at next next
     unfolding emptiedUnlessFlagged
     flagged-stays v = record {
-      by = λ t d. wrote-as (record { spans = d; frame = agree-all old (start at) }) (rw (sym (flag-is t d) ∙ v));
+      by = λ t d. wrote-as (record { spans = d; frame = before-all old at }) (rw (sym (flag-is t d) ∙ v));
     }
 
-    pub clear-emptied : b ≡ false → (place : ℕ) → place ≡ headAt old at .place → {new : List ℕ} → Recorded old new at (madeHead kind.literal 18 place) 0 1
+    pub clear-emptied : b ≡ false → (place : Place) → place ≡ headAt old at .place → {new : List ℕ} → Recorded old new at (madeHead kind.literal 18 place) 0 1
         → Emptied old new at next (at + 1)
     unfolding emptiedUnlessFlagged emptyLiteral
     clear-emptied v place e {new} w = record {
       by = λ t d.
-          wrote-as (recorded-node [] (agree-all old (start at)) (record { stands = tt; ends = omega arith }) w refl refl)
+          wrote-as (recorded-node [] (before-all old at) (record { stands = tt; ends = omega arith }) w refl refl)
           (rw (e ∙ ap (λ (h : Head). h .place) (d .stands .0), sym (flag-is t d) ∙ v));
     }
 
@@ -86,8 +86,8 @@ module _ {s : List ℕ} {i : ℕ} (a : Bool) (p : Tells s i possibleSymbol a) wh
 
 -- A tree of the input, copied.
 module _ {s : List ℕ} {at size pos : ℕ} {old mid : List ℕ} {e : ℕ} (c : CopiedTree s at size old mid pos e) where
-  pub copied-one : {room : ℕ} → GivenTree s at size pos room → length mid ≡ room → GivenOne mid pos e
-  copied-one g l = record { tree = g .tree; spans = copied-wrote (g .tree) (g .input) c .spans; inside = omega (arith, g .fits, c .ends) }
+  pub copied-one : GivenTree s at size pos (recordsIn old) → GivenOne mid pos e
+  copied-one g = record { tree = g .tree; spans = copied-wrote (g .tree) (g .input) c .spans; inside = omega (arith, g .fits, c .ends, c .frame .room) }
 
   module _ (b : Bool) (p : Tells s at stringFact b) where
     pub right-emptied : b ≡ true → {new : List ℕ} {r : ℕ} → Emptied mid new pos e r → RightFolded s at size old new pos r
@@ -100,12 +100,15 @@ module _ {s : List ℕ} {at size pos : ℕ} {old mid : List ℕ} {e : ℕ} (c : 
     pub right-copied : b ≡ false → RightFolded s at size old mid pos e
     right-copied v = record { by = λ t d i. wrote-as (copied-wrote t i c) (rw (sym (p .by t (input-node i)) ∙ v)) }
 
--- Where they end.
+-- Where they end, and that there is room for as many records as before.
 pub emptied-some : {old new : List ℕ} {at next r : ℕ} → GivenOne old at next → Emptied old new at next r → at < r
 emptied-some g m = omega (arith, m .by (g .tree) (g .spans) .spans .ends)
 
 pub emptied-within : {old new : List ℕ} {at next r : ℕ} → GivenOne old at next → Emptied old new at next r → r ≤ next
 emptied-within g m = omega (arith, m .by (g .tree) (g .spans) .spans .ends, g .spans .ends, emptied-size (g .tree))
+
+pub emptied-room : {old new : List ℕ} {at next r : ℕ} → GivenOne old at next → Emptied old new at next r → recordsIn new ≡ recordsIn old
+emptied-room g m = m .by (g .tree) (g .spans) .frame .room
 
 pub right-size : (x : Tree) → size (foldedRight x) ≤ size x
 right-size x = by-cond (λ y. size y ≤ size x) (stringFact x) (emptiedUnlessFlagged x) x (λ _. emptied-size x) (λ _. omega arith)
@@ -114,6 +117,9 @@ module _ {s : List ℕ} {at size pos room : ℕ} {old new : List ℕ} {r : ℕ} 
   right-ends : r ≡ pos + records (one (foldedRight (g .tree)))
   right-ends = f .by (g .tree) (g .depth) (g .input) .spans .ends
 
+  pub right-room : recordsIn new ≡ recordsIn old
+  right-room = f .by (g .tree) (g .depth) (g .input) .frame .room
+
   pub right-after : pos ≤ r
   right-after = omega (arith, right-ends)
 
@@ -121,14 +127,13 @@ module _ {s : List ℕ} {at size pos room : ℕ} {old new : List ℕ} {r : ℕ} 
   right-within = omega (arith, right-ends, right-size (g .tree), g .input .holds .sized)
 
 -- The left side alone, moved to where the addition is to stand.
-moved-down : {old mid new : List ℕ} {pos e : ℕ} {ts : List Tree} → Wrote old mid (pos + 1) e ts → (n : ℕ) → n ≡ e - pos - 1 → Shifted mid new (start pos) (16 * n) → Wrote old new pos (e - 1) ts
+moved-down : {old mid new : List ℕ} {pos e : ℕ} {ts : List Tree} → Wrote old mid (pos + 1) e ts → (n : ℕ) → n ≡ e - pos - 1 → MovedRecords mid (pos + 1) n mid new pos → Wrote old new pos (e - 1) ts
 moved-down {old} {mid} {new} {pos} {e} {ts} w n en m =
-    let x : start pos + 16 ≡ start (pos + 1) = omega arith in
-    let y : 16 * n ≡ 16 * records (forest ts) = omega (arith, w .spans .ends) in
+    let y : n ≡ records (forest ts) = omega (arith, w .spans .ends) in
     let z : pos + records (forest ts) ≡ e - 1 = omega (arith, w .spans .ends) in
     record {
-      spans = rw z at (spans-copied pos (w .spans) (rw (x, y) at (m .there)));
-      frame = agree-trans (agree-less (start pos) (omega arith) (w .frame)) (m .below) (omega arith);
+      spans = rw z at (spans-copied pos (w .spans) (rw y at (m .there)));
+      frame = before-trans (before-less pos (omega arith) (w .frame)) (m .below) (omega arith);
     }
 
 -- The addition over its two sides.
@@ -136,13 +141,13 @@ kept-over : {old mid new : List ℕ} {pos e z : ℕ} {h : Head} (t x y : Tree) �
     → z ≡ e - pos → Recorded mid new pos h 2 z → Wrote old new pos e (withChildren t (x ∷ y ∷ []) ∷ [])
 unfolding withChildren
 kept-over {pos = pos} t x y eh w ez m =
-    wrote-as (recorded-node (x ∷ y ∷ []) (agree-less (start pos) (omega arith) (w .frame)) (w .spans) m refl (omega (arith, w .spans .ends)))
+    wrote-as (recorded-node (x ∷ y ∷ []) (before-less pos (omega arith) (w .frame)) (w .spans) m refl (omega (arith, w .spans .ends)))
     (ap (λ (a : Head). record { head = a; kids = forest (x ∷ y ∷ []) } ∷ []) eh)
 
 module _ {s : List ℕ} {at right size : ℕ} {old mid : List ℕ} {pos next : ℕ} (string : Bool) where
   -- A left side that is a string.
   module _ (v : string ≡ true) {e : ℕ} (m : Emptied old mid (pos + 1) next e) (d : Bool) (p : Tells s right isDroppedRight d) where
-    pub dropped-done : d ≡ true → (n : ℕ) → n ≡ e - pos - 1 → {new : List ℕ} → Shifted mid new (start pos) (16 * n) → SidesFolded s at right size string old new pos next (e - 1)
+    pub dropped-done : d ≡ true → (n : ℕ) → n ≡ e - pos - 1 → {new : List ℕ} → MovedRecords mid (pos + 1) n mid new pos → SidesFolded s at right size string old new pos next (e - 1)
     unfolding foldSides
     dropped-done u n en w = record {
       by = λ t x y depth h b l i. wrote-as (moved-down (m .by x l) n en w) (rw (sym b ∙ v, sym (p .by y (input-node i)) ∙ u));
@@ -163,6 +168,6 @@ module _ {s : List ℕ} {at right size : ℕ} {old mid : List ℕ} {pos next : �
   unfolding foldSides
   other-done v f z ez w = record {
     by = λ t x y depth h b l i.
-        wrote-as (kept-over t x (foldedRight y) h (wrote-both (x ∷ []) (foldedRight y ∷ []) (record { spans = l; frame = agree-all old (start (pos + 1)) }) (f .by y depth i)) ez w)
+        wrote-as (kept-over t x (foldedRight y) h (wrote-both (x ∷ []) (foldedRight y ∷ []) (record { spans = l; frame = before-all old (pos + 1) }) (f .by y depth i)) ez w)
         (rw (sym b ∙ v));
   }

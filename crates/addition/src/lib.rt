@@ -1,8 +1,7 @@
 // `fold_string_addition_chain`, and the rule of an addition that uses it.
 use fields::kind;
 ghost use Prim.Native.Nat.{_+_, _≤_};
-ghost use lib.ListN.{length};
-ghost use Rattle.tree.specs.Fields.{start};
+ghost use Rattle.tree.specs.Room.{recordsIn};
 ghost use Rattle.rules.specs.Addition.{isDroppedRight};
 ghost use Rattle.readings.specs.Node.{Tells};
 ghost use Rattle.output.specs.Given.{GivenTree};
@@ -30,7 +29,7 @@ fn empty_unless_flagged(out: &mut [u8], at: usize, next: usize) -> usize
 
 // "a right side that is no symbol and unflagged is dropped"
 fn is_dropped_right(src: &[u8], at: usize) -> bool
-    requires { ⌜ start (at + 1) ≤ length (now src) ⌝ }
+    requires { ⌜ at + 1 ≤ recordsIn (now src) ⌝ }
     ensures { λ r. ⌜ Tells (now (src .entry)) at isDroppedRight r ⌝ }
 {
     if readings::possible_symbol_at(src, at) {
@@ -41,7 +40,7 @@ fn is_dropped_right(src: &[u8], at: usize) -> bool
 
 // The right side at record at: "a right side that is a string and unflagged becomes the empty literal".
 fn fold_right(src: &[u8], at: usize, size: usize, out: &mut [u8], pos: usize) -> usize
-    requires { ⌜ GivenTree (now src) at size pos (length (now out)) ⌝ }
+    requires { ⌜ GivenTree (now src) at size pos (recordsIn (now out)) ⌝ }
     ensures { λ r. ⌜ RightFolded (now (src .entry)) at size (now (out .entry)) (now (out .exit)) pos r ⌝ }
 {
     let next = output::copy_tree(src, at, size, out, pos);
@@ -89,7 +88,7 @@ fn fold_string_addition_chain(
     out: &mut [u8],
     pos: usize,
 ) -> Folded
-    requires { ⌜ GivenTree (now src) at size pos (length (now out)) ⌝ }
+    requires { ⌜ GivenTree (now src) at size pos (recordsIn (now out)) ⌝ }
     ensures { λ r. ⌜ Folds (now (src .entry)) at size (now (out .entry)) (now (out .exit)) pos (r .next) (r .string) ⌝ }
 {
     if readings::is_addition(src, at) {
@@ -119,7 +118,7 @@ pub fn remove_unused_addition(
     out: &mut [u8],
     pos: usize,
 ) -> usize
-    requires { ⌜ GivenTree (now src) at size pos (length (now out)) ⌝ }
+    requires { ⌜ GivenTree (now src) at size pos (recordsIn (now out)) ⌝ }
     ensures { λ r. ⌜ RemovesAddition (now (src .entry)) at size (now (out .entry)) (now (out .exit)) pos r ⌝ }
 {
     let folded = fold_string_addition_chain(src, at, size, out, pos);

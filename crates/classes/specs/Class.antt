@@ -3,9 +3,9 @@ use mathlib.Core.Path.{_≡_, ap, _∙_}
 use mathlib.Core.List.{List, [], _∷_}
 use Prim.Native.Nat.{ℕ, _+_, _-_, _/_, _%_, _<_, _≤_}
 use native.Mathlib.Omega.{arith}
-use lib.ListN.{length}
 use Rattle.tree.specs.Tree.{Place, Head, Tree, trees, forest, one, records, forest-trees}
-use Rattle.tree.specs.Fields.{start, headAt}
+use Rattle.tree.specs.Room.{recordsIn}
+use Rattle.tree.specs.Fields.{headAt}
 use Rattle.tree.specs.Children as children
 use Rattle.tree.specs.Kind as kind
 use Rattle.rules.specs.Lists.{filter, concatMap}
@@ -17,11 +17,11 @@ use Rattle.readings.specs.Input.{Input}
 use Rattle.readings.specs.First.{firstSize, GivenFirst}
 use Rattle.readings.specs.Split.{Split, some-size}
 use Rattle.readings.specs.Heritage.{heritage-split, heritage-first}
-use Rattle.output.specs.Bytes.{agree-less}
+use Rattle.output.specs.Records.{before-less}
 use Rattle.output.specs.Trees.{Wrote, wrote-none, wrote-both, wrote-over, wrote-as}
 use Rattle.output.specs.Given.{GivenList, GivenTree}
 use Rattle.rewrite.specs.Made.{GivenMade, Makes}
-use Rattle.classes.specs.Extract.{GivenAtMostOne, CopiesFlagged, ExtractsElements, elements-size, first-given, first-wrote, first-ends}
+use Rattle.classes.specs.Extract.{GivenAtMostOne, CopiesFlagged, ExtractsElements, elements-size, first-given, first-wrote, first-room, first-ends}
 
 pub record GivenClass (s : List ℕ) (at size pos room : ℕ) : Type 0 where
   pub given : GivenTree s at size pos room
@@ -53,8 +53,13 @@ module _ {s : List ℕ} {at size : ℕ} (ek : headAt s at .kind ≡ kind.class) 
         heritage-ends : next ≤ pos + 1 + k
         heritage-ends = first-ends d (omega arith) c
 
-        pub elements-given : length mid ≡ room → GivenList s (at + 1 + k) (size - 1 - k) next (length mid)
-        elements-given l = record { forest = d .rest; depth = g .depth - 1; input = d .rest-in; fits = omega (arith, g .fits, heritage-ends, heritage-within) }
+        pub elements-given : room ≡ recordsIn old → GivenList s (at + 1 + k) (size - 1 - k) next (recordsIn mid)
+        elements-given l = record {
+          forest = d .rest;
+          depth = g .depth - 1;
+          input = d .rest-in;
+          fits = omega (arith, l, first-room d (omega arith) c, g .fits, heritage-ends, heritage-within);
+        }
 
         module _ {mid′ : List ℕ} {next′ : ℕ} (x : ExtractsElements s (at + 1 + k) (size - 1 - k) mid mid′ next next′) where
           elements-ends : next′ ≤ pos + size
@@ -82,22 +87,21 @@ module _ {s : List ℕ} {at size : ℕ} (ek : headAt s at .kind ≡ kind.class) 
       none-left n = record { by = λ t depth i. go (placeOf t) (extracted t) (extracted-wrote t i) }
         where
           go : (p : Place) (ts : List Tree) → Wrote old mid′ (pos + 1) next′ ts → Wrote old mid′ pos pos (sequenceIfAny p ts)
-          go p [] w = wrote-none (agree-less (start pos) (omega arith) (w .frame))
+          go p [] w = wrote-none (before-less pos (omega arith) (w .frame))
           go p (y ∷ ys) w = absurd (omega (arith, w .spans .ends))
 
-      pub sequence-given : {room : ℕ} → GivenTree s at size pos room → length mid′ ≡ room → (place : ℕ) → place < 4294967296 → GivenMade mid′ pos next′ place
-      sequence-given g l place p =
+      pub sequence-given : {room : ℕ} → GivenTree s at size pos room → room ≡ recordsIn old → GivenMade mid′ pos next′
+      sequence-given g l =
           let w = extracted-wrote (g .tree) (g .input) in
           let e = elements-ends g c x in
           record {
             list = extracted (g .tree);
             spans = w .spans;
-            inside = omega (arith, g .fits);
+            inside = omega (arith, l, w .frame .room, g .fits);
             small = omega (arith, g .input .small);
-            place-small = p;
           }
 
-      pub some-left : (next′ ≡ pos + 1 → ⊥) → (place : ℕ) → place ≡ headAt s at .place → {new : List ℕ} → Makes makeSequence mid′ new pos next′ place → RemovesClass s at size old new pos next′
+      pub some-left : (next′ ≡ pos + 1 → ⊥) → (place : Place) → place ≡ headAt s at .place → {new : List ℕ} → Makes makeSequence mid′ new pos next′ place → RemovesClass s at size old new pos next′
       some-left n place ep {new} m = record {
         by = λ t depth i. go (placeOf t) (ep ∙ ap (λ (h : Head). h .place) (i .holds .stands .0)) (extracted t) (extracted-wrote t i);
       }

@@ -2,12 +2,13 @@
 use mathlib.Core.Path.{_≡_, refl, sym, ap, _∙_}
 use mathlib.Core.Bool.{Bool, true, false}
 use mathlib.Core.List.{List, [], _∷_, _++_, append-nil}
-use Prim.Native.Nat.{ℕ, zero, suc, _+_, _*_, _-_, _/_, _%_, _<_, _≤_}
+use Prim.Native.Nat.{ℕ, zero, suc, _+_, _-_, _/_, _%_, _<_, _≤_}
 use native.Mathlib.Omega.{arith}
 use lib.ListN.{length, take, drop}
 use Rattle.tree.specs.Tree.{Forest, nil, node, Tree, trees, forest, one, count, records, forest-trees}
 use Rattle.tree.specs.Record.{bit}
-use Rattle.tree.specs.Fields.{start, headAt, subtreeAt}
+use Rattle.tree.specs.Room.{recordsIn}
+use Rattle.tree.specs.Fields.{headAt, subtreeAt}
 use Rattle.rules.specs.Lists.{keepIf, filter, concatMap}
 use Rattle.rules.specs.Facts.{flagged}
 use Rattle.rules.specs.Class.{hasStaticValue, computedKey, staticValue, extractedOfElement}
@@ -17,7 +18,7 @@ use Rattle.readings.specs.Input.{Input, input-node}
 use Rattle.readings.specs.First.{firstSize, GivenFirst}
 use Rattle.readings.specs.Split.{Split, first-some, first-within, first-input, rest-input, some-size}
 use Rattle.readings.specs.Element.{key-split, key-first}
-use Rattle.output.specs.Bytes.{Moved, agree-all}
+use Rattle.output.specs.Records.{MovedRecords, before-all}
 use Rattle.output.specs.Trees.{Wrote, CopiedTree, records-append, wrote-none, wrote-both, wrote-as}
 use Rattle.output.specs.Given.{GivenList, GivenTree, copied-wrote, copied-list}
 
@@ -60,9 +61,9 @@ pub record ExtractsElements (s : List ℕ) (at size : ℕ) (old new : List ℕ) 
   pub by : (f : Forest) (depth : ℕ) → Input s at size depth f → Wrote old new pos r (concatMap extractedOfElement (trees f))
 
 pub wrote-nothing : (old : List ℕ) (pos : ℕ) → Wrote old old pos pos []
-wrote-nothing old pos = wrote-none (agree-all old (start pos))
+wrote-nothing old pos = wrote-none (before-all old pos)
 
-pub some-inside : {s : List ℕ} {at size pos room : ℕ} → GivenAtMostOne s at size pos room → (size ≡ 0 → ⊥) → start (at + 1) ≤ length s
+pub some-inside : {s : List ℕ} {at size pos room : ℕ} → GivenAtMostOne s at size pos room → (size ≡ 0 → ⊥) → at + 1 ≤ recordsIn s
 some-inside {size = size} g z = let l : 1 ≤ size = omega arith in omega (arith, g .given .input .inside)
 
 -- The one tree, by its flag b.
@@ -106,12 +107,15 @@ module _ {s : List ℕ} {at size depth : ℕ} {t : Tree} {has k : ℕ} (d : Spli
   first-few : count (d .first) ≤ 1
   first-few = omega (arith, counted (d .first), ap length (d .first-is), take-few has (trees (t .kids)))
 
-  pub first-given : {pos room : ℕ} → start (pos + k) ≤ room → GivenAtMostOne s (at + 1) k pos room
+  pub first-given : {pos room : ℕ} → pos + k ≤ room → GivenAtMostOne s (at + 1) k pos room
   first-given f = record { given = record { forest = d .first; depth = depth - 1; input = d .first-in; fits = f }; few = first-few }
 
   module _ {old new : List ℕ} {pos r : ℕ} (c : CopiesFlagged s (at + 1) k old new pos r) where
     pub first-wrote : Wrote old new pos r (filter flagged (take has (trees (t .kids))))
     first-wrote = wrote-as (c .by (d .first) (depth - 1) (d .first-in) first-few) (ap (filter flagged) (d .first-is))
+
+    pub first-room : recordsIn new ≡ recordsIn old
+    first-room = first-wrote .frame .room
 
     pub first-ends : r ≤ pos + k
     first-ends =
@@ -142,8 +146,11 @@ module _ {s : List ℕ} {at size : ℕ} (u has : ℕ) (eu : u ≡ headAt s at .s
       pub key-ends : {room : ℕ} → GivenTree s at size pos room → next ≤ pos + k
       key-ends g = first-ends (element-split (g .tree) (g .depth) (g .input)) (omega arith) c
 
+      pub key-room : {room : ℕ} → GivenTree s at size pos room → recordsIn mid ≡ recordsIn old
+      key-room g = first-room (element-split (g .tree) (g .depth) (g .input)) (omega arith) c
+
       module _ (b : Bool) (p : Tells s at hasStaticValue b) where
-        pub key-then-value : b ≡ true → (v : ℕ) → v ≡ size - 1 - k → {new : List ℕ} → Moved s (start (at + 1 + k)) (16 * v) mid new (start next)
+        pub key-then-value : b ≡ true → (v : ℕ) → v ≡ size - 1 - k → {new : List ℕ} → MovedRecords s (at + 1 + k) v mid new next
             → ExtractsElement s at size old new pos (next + v)
         key-then-value y v ev {new} m = record { by = go }
           where
@@ -164,10 +171,10 @@ module _ {s : List ℕ} {at size : ℕ} (u has : ℕ) (eu : u ≡ headAt s at .s
 pub record Extracting (s : List ℕ) (at size : ℕ) (old : List ℕ) (pos p e : ℕ) (cur : List ℕ) (next : ℕ) : Type 0 where
   pub inside : p ≤ e
   pub same : length cur ≡ length old
-  pub given : GivenList s p (e - p) next (length old)
+  pub given : GivenList s p (e - p) next (recordsIn cur)
   pub whole : (new : List ℕ) (r : ℕ) → ExtractsElements s p (e - p) cur new next r → ExtractsElements s at size old new pos r
 
-pub extract-start : {s : List ℕ} {at size : ℕ} {old : List ℕ} {pos : ℕ} → GivenList s at size pos (length old) → Extracting s at size old pos at (at + size) old pos
+pub extract-start : {s : List ℕ} {at size : ℕ} {old : List ℕ} {pos : ℕ} → GivenList s at size pos (recordsIn old) → Extracting s at size old pos at (at + size) old pos
 extract-start {s} {at} {size} g =
     let e : at + size - at ≡ size = omega arith in
     record { inside = omega arith; same = refl; given = rw e g; whole = λ new r x. rw e at x }
@@ -181,7 +188,7 @@ module _ {s : List ℕ} {at size : ℕ} {old : List ℕ} {pos p e : ℕ} {cur : 
       go (node h cs rest) depth i = absurd (omega (arith, i .holds .sized))
 
   module _ (l : p < e) where
-    pub walk-inside : start (p + 1) ≤ length s
+    pub walk-inside : p + 1 ≤ recordsIn s
     walk-inside = omega (arith, w .given .input .inside)
 
     pub subtree-some : 1 ≤ subtreeAt s p
@@ -199,10 +206,10 @@ module _ {s : List ℕ} {at size : ℕ} {old : List ℕ} {pos p e : ℕ} {cur : 
         go (node h cs rest) i = omega (arith, first-within i)
 
     module _ (z : ℕ) (ez : z ≡ subtreeAt s p) where
-      pub element-given : GivenTree s p z next (length old)
+      pub element-given : GivenTree s p z next (recordsIn cur)
       element-given = rw ez (go (w .given .forest) (w .given .input))
         where
-          go : (f : Forest) → Input s p (e - p) (w .given .depth) f → GivenTree s p (subtreeAt s p) next (length old)
+          go : (f : Forest) → Input s p (e - p) (w .given .depth) f → GivenTree s p (subtreeAt s p) next (recordsIn cur)
           go nil i = absurd (omega (arith, i .holds .sized))
           go (node h cs rest) i = record {
             tree = record { head = h; kids = cs };
@@ -215,18 +222,19 @@ module _ {s : List ℕ} {at size : ℕ} {old : List ℕ} {pos p e : ℕ} {cur : 
         this : ExtractsElement s p (subtreeAt s p) cur cur′ next next′
         this = rw ez at a
 
-        rest-given : GivenList s (p + subtreeAt s p) (e - p - subtreeAt s p) next′ (length old)
+        rest-given : GivenList s (p + subtreeAt s p) (e - p - subtreeAt s p) next′ (recordsIn cur′)
         rest-given = go (w .given .forest) (w .given .input)
           where
-            go : (f : Forest) → Input s p (e - p) (w .given .depth) f → GivenList s (p + subtreeAt s p) (e - p - subtreeAt s p) next′ (length old)
+            go : (f : Forest) → Input s p (e - p) (w .given .depth) f → GivenList s (p + subtreeAt s p) (e - p - subtreeAt s p) next′ (recordsIn cur′)
             go nil i = absurd (omega (arith, i .holds .sized))
             go (node h cs rest) i =
                 let t : Tree = record { head = h; kids = cs } in
+                let x = this .by t (w .given .depth) (first-input i) in
                 record {
                   forest = rest;
                   depth = w .given .depth;
                   input = rest-input i;
-                  fits = omega (arith, w .given .fits, subtree-within, this .by t (w .given .depth) (first-input i) .spans .ends, element-size t, i .holds .stands .2);
+                  fits = omega (arith, w .given .fits, subtree-within, x .spans .ends, x .frame .room, element-size t, i .holds .stands .2);
                 }
 
         rest-whole : (new : List ℕ) (r : ℕ) → ExtractsElements s (p + subtreeAt s p) (e - p - subtreeAt s p) cur′ new next′ r → ExtractsElements s p (e - p) cur new next r

@@ -6,7 +6,8 @@ use Prim.Native.Nat.{ℕ, _+_, _-_, _<_, _≤_}
 use native.Mathlib.Omega.{arith}
 use lib.ListN.{length, length-append}
 use Rattle.tree.specs.Tree.{Head, Forest, nil, node, Tree, trees}
-use Rattle.tree.specs.Fields.{start, subtreeAt}
+use Rattle.tree.specs.Room.{recordsIn}
+use Rattle.tree.specs.Fields.{subtreeAt}
 use Rattle.rules.specs.Lists.{concatMap, keepIf}
 use Rattle.rules.specs.Settings.{Settings}
 use Rattle.rules.specs.Effects.{itselfIf}
@@ -42,7 +43,7 @@ module _ {s : List ℕ} {at size depth : ℕ} {st : Settings} {part : Listing} {
       go (node h cs rest) i = absurd (omega (arith, i .holds .sized, w .inside))
 
   module _ (l : p < e) where
-    pub walk-subtree : start (p + 1) ≤ length s
+    pub walk-subtree : p + 1 ≤ recordsIn s
     walk-subtree = omega (arith, w .given .input .inside, w .inside)
 
     pub child-some : 1 ≤ subtreeAt s p

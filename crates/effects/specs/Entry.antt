@@ -8,8 +8,9 @@ use native.Mathlib.Nat.{add-zero}
 use native.Mathlib.Omega.{arith}
 use lib.ListN.{length, getD, set}
 use lib.Seq.{getD-set-other, set-getD, set-set}
-use Rattle.tree.specs.Tree.{Head, Tree}
-use Rattle.tree.specs.Fields.{start, headAt}
+use Rattle.tree.specs.Tree.{Place, Head, Tree}
+use Rattle.tree.specs.Room.{recordsIn}
+use Rattle.tree.specs.Fields.{headAt}
 use Rattle.rules.specs.Lists.{keepIf}
 use Rattle.rules.specs.Facts.{possibleSymbol}
 use Rattle.rules.specs.Effects.{itself, itselfIf, coercion, coercionNumber}
@@ -18,21 +19,21 @@ use Rattle.stated.specs.Wrote.{Wrote, wrote-as}
 
 -- "An effect is place × 512 + kind × 2 + 1 if a coercion"
 abbrev pub effectAt : List ℕ → ℕ → ℕ → ℕ
-effectAt s at coercion = headAt s at .place * 512 + headAt s at .kind * 2 + coercion
+effectAt s at coercion = headAt s at .place .start * 512 + headAt s at .kind * 2 + coercion
 
 -- Behind what may be listed here there is an entry left.
 pub record GivenEntry (s : List ℕ) (at : ℕ) (when : Bool) (coercion pos room : ℕ) : Type 0 where
-  pub inside : start (at + 1) ≤ length s
+  pub inside : at + 1 ≤ recordsIn s
   pub small : coercion < 2
   pub fits : pos + length (keepIf when (effectAt s at coercion)) < room
 
 pub effect-itself : {s : List ℕ} {at : ℕ} {t : Tree} → Node s at t → effectAt s at 0 ≡ itself t
 unfolding itself
-effect-itself {s} {at} {t} n = add-zero (headAt s at .place * 512 + headAt s at .kind * 2) ∙ ap (λ (h : Head). h .place * 512 + h .kind * 2) (n .stands .0)
+effect-itself {s} {at} {t} n = add-zero (headAt s at .place .start * 512 + headAt s at .kind * 2) ∙ ap (λ (h : Head). h .place .start * 512 + h .kind * 2) (n .stands .0)
 
 pub effect-coercion : {s : List ℕ} {at : ℕ} {t : Tree} → Node s at t → effectAt s at 1 ≡ coercionNumber t
 unfolding itself coercionNumber
-effect-coercion {s} {at} {t} n = ap (λ (h : Head). h .place * 512 + h .kind * 2 + 1) (n .stands .0)
+effect-coercion {s} {at} {t} n = ap (λ (h : Head). h .place .start * 512 + h .kind * 2 + 1) (n .stands .0)
 
 -- The entry where the list goes on gets back what it held: the next one, which has not changed, or the one that was written.
 pub next-inside : (s : List ℕ) (at : ℕ) (when : Bool) (coercion pos room : ℕ) {next : ℕ} → GivenEntry s at when coercion pos room
@@ -40,10 +41,10 @@ pub next-inside : (s : List ℕ) (at : ℕ) (when : Bool) (coercion pos room : �
 next-inside s at when coercion pos room g (inl (e, n)) = omega (arith, rw e at (g .fits))
 next-inside s at when coercion pos room g (inr (e, n)) = omega (arith, rw e at (g .fits))
 
-pub wrote-next : (s : List ℕ) (at : ℕ) (old : List ℕ) (pos coercion : ℕ) {place k : ℕ} → place ≡ headAt s at .place → k ≡ headAt s at .kind
-    → Wrote old (set (set old pos (place * 512 + k * 2 + coercion)) (pos + 1) (getD old (pos + 1) 0)) pos (pos + 1) (effectAt s at coercion ∷ [])
+pub wrote-next : (s : List ℕ) (at : ℕ) (old : List ℕ) (pos coercion : ℕ) {place : Place} {k : ℕ} → place ≡ headAt s at .place → k ≡ headAt s at .kind
+    → Wrote old (set (set old pos (place .start * 512 + k * 2 + coercion)) (pos + 1) (getD old (pos + 1) 0)) pos (pos + 1) (effectAt s at coercion ∷ [])
 wrote-next s at old pos coercion {place} {k} ep ek =
-    let e = place * 512 + k * 2 + coercion in
+    let e = place .start * 512 + k * 2 + coercion in
     let h : getD (set old pos e) (pos + 1) 0 ≡ getD old (pos + 1) 0 = getD-set-other old pos (pos + 1) e 0 (λ x. omega arith) in
     record {
       ends = omega arith;

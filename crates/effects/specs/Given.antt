@@ -3,9 +3,8 @@ use mathlib.Core.Path.{_≡_, sym, subst}
 use mathlib.Core.List.{List}
 use Prim.Native.Nat.{ℕ, _+_, _≤_}
 use native.Mathlib.Omega.{arith}
-use lib.ListN.{length}
 use Rattle.tree.specs.Tree.{node}
-use Rattle.tree.specs.Fields.{start}
+use Rattle.tree.specs.Room.{recordsIn}
 use Rattle.rules.specs.Settings.{Settings}
 use Rattle.readings.specs.Node.{SomeNode}
 use Rattle.readings.specs.Split.{some-size}
@@ -29,5 +28,5 @@ module _ {s : List ℕ} {at size depth : ℕ} {st : Settings} {part : Listing} {
   pub given-node : SomeNode s at
   given-node = record { tree = g .tree; node = input-node (g .input) }
 
-  pub given-inside : start (at + 1) ≤ length s
+  pub given-inside : at + 1 ≤ recordsIn s
   given-inside = omega (arith, g .input .inside, some-size (g .input))

@@ -7,6 +7,7 @@ use lib.Dec.{eqb, leb}
 use lib.ListN.{drop}
 use borrow.Author.Tests.{ne-eqb, leb-true}
 use Rattle.tree.specs.Tree.{Tree, trees, count}
+use Rattle.tree.specs.Heads.{bare}
 use Rattle.tree.specs.Children.{childCountOk, nodeOk}
 use Rattle.tree.specs.Stands.{node-parts}
 use Rattle.rules.specs.Lists.{concatMap, ofTwo}
@@ -147,7 +148,7 @@ module _ (s : Settings) (t : Tree) where
 
     -- Unary, by its sub u.
     module _ (e : k ≡ kind.unary) (u : ℕ) (eu : u ≡ t .head .sub) where
-      unary-handled : (h : Handler) → handler (record { kind = 14; facts = 0; sub = u; reserved = 0; text = 0; place = 0 }) ≡ h → handler (t .head) ≡ h
+      unary-handled : (h : Handler) → handler (bare kind.unary u) ≡ h → handler (t .head) ≡ h
       unfolding handler
       unary-handled h x = rw (sym ek ∙ e, ← eu) x
 
@@ -173,7 +174,7 @@ module _ (s : Settings) (t : Tree) where
 
     -- Binary, by its sub u.
     module _ (e : k ≡ kind.binary) (u : ℕ) (eu : u ≡ t .head .sub) where
-      binary-handled : (h : Handler) → handler (record { kind = 15; facts = 0; sub = u; reserved = 0; text = 0; place = 0 }) ≡ h → handler (t .head) ≡ h
+      binary-handled : (h : Handler) → handler (bare kind.binary u) ≡ h → handler (t .head) ≡ h
       unfolding handler
       binary-handled h x = rw (sym ek ∙ e, ← eu) x
 

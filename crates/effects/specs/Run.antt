@@ -16,7 +16,7 @@ use Rattle.tree.specs.Children.{nodeOk, formed, wellFormed}
 use Rattle.tree.specs.Fields.{settingsOf, countOf}
 use Rattle.tree.specs.Refusal.{listEffectsLimits, refusal, treeOf}
 use Rattle.tree.specs.Encoding.{Bytes}
-use Rattle.tree.specs.Accepted.{passed, counted-parts, Accepted, accepted}
+use Rattle.tree.specs.Accepted.{passed, counted-parts, counted-room, Accepted, accepted}
 use Rattle.file.specs.Answer.{verdict, verdict-refused, verdict-accepted}
 use Rattle.rules.specs.Effects.{effects}
 use Rattle.rules.specs.Theorems.{few-effects}
@@ -74,7 +74,7 @@ module _ (s : List ℕ) (st n : ℕ) (e : answered (st ∷ n ∷ []) ≡ verdict
       holds = record { stands = A .stands; sized = omega (arith, is-count, A .sized) };
       ok = formed-root;
       low = omega (arith, A .permitted .low);
-      inside = omega (arith, is-count, counted-parts (listEffectsLimits .records) s (passed listEffectsLimits s is-zero .counted) .long);
+      inside = omega (arith, is-count, counted-room (counted-parts (listEffectsLimits .records) s (passed listEffectsLimits s is-zero .counted)));
       small = omega (arith, is-count, A .sized, A .permitted .few);
     }
 

@@ -8,7 +8,8 @@ use lib.Dec.{eqb}
 use borrow.Author.Tests.{eqb-true, eq-eqb}
 use lib.ListN.{length, length-append}
 use Rattle.tree.specs.Tree.{Head, Tree, one, recur-is}
-use Rattle.tree.specs.Fields.{start, headAt, subtreeAt}
+use Rattle.tree.specs.Room.{recordsIn}
+use Rattle.tree.specs.Fields.{headAt, subtreeAt}
 use Rattle.tree.specs.Below.{and-left, and-right}
 use Rattle.rules.specs.Lists.{keepIf}
 use Rattle.rules.specs.Settings.{Settings}
@@ -84,14 +85,14 @@ module _ {s : List ℕ} (at size depth : ℕ) (st : Settings) (ek : headAt s at 
           length-append (effects st (S .r)) (additionEffect (g .tree) (S .l) (S .r)),
         )
 
-    pub left-inside : start (at + 2) ≤ length s
+    pub left-inside : at + 2 ≤ recordsIn s
     left-inside = omega (arith, S .left-in .inside, some-size (S .left-in))
 
     module _ (z : ℕ) (ez : z ≡ subtreeAt s (at + 1)) where
       pub left-given : GivenTree s (at + 1) z (depth - 1) st InOrder pos room
       left-given = rw ez (record { tree = S .l; input = S .left-in; fits = omega (arith, sum-length) })
 
-      pub right-inside : start (at + 1 + z + 1) ≤ length s
+      pub right-inside : at + 1 + z + 1 ≤ recordsIn s
       right-inside = omega (arith, ez, S .right-in .inside, some-size (S .right-in))
 
       module _ {old mid : List ℕ} {next : ℕ} {string : Bool} (a : ListedSide s (at + 1) z (depth - 1) st old mid pos next string) (y : ℕ) (ey : y ≡ subtreeAt s (at + 1 + z)) where

@@ -18,7 +18,8 @@ pub fn list_if(
     requires { ⌜ GivenEntry (now src) at when coercion pos (length (now out)) ⌝ }
     ensures { λ r. ⌜ Wrote (now (out .entry)) (now (out .exit)) pos r (keepIf when (effectAt (now (src .entry)) at coercion)) ⌝ }
 {
-    let effect = (fields::place_at(src, at) * 512 + fields::kind_at(src, at) * 2 + coercion) as u64;
+    let place = fields::place_at(src, at);
+    let effect = (place.start as usize * 512 + fields::kind_at(src, at) * 2 + coercion) as u64;
     let next = if when { pos + 1 } else { pos };
     let held = out[next];
     out[pos] = effect;

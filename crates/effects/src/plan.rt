@@ -3,8 +3,8 @@ use fields::kind;
 ghost use mathlib.Core.Path.{_≡_};
 ghost use mathlib.Core.Bool.{true, false};
 ghost use Prim.Native.Nat.{_+_, _≤_};
-ghost use lib.ListN.{length};
-ghost use Rattle.tree.specs.Fields.{start, headAt};
+ghost use Rattle.tree.specs.Room.{recordsIn};
+ghost use Rattle.tree.specs.Fields.{headAt};
 ghost use Rattle.readings.specs.Node.{SomeNode, settingsWith};
 ghost use Rattle.effects.specs.Plan.{Plans, PlansOf};
 ghost use Rattle.effects.specs.Passed.{isPassed, Passes};
@@ -67,7 +67,7 @@ const THIS: usize = 0b100_0000;
 
 // Whether record at is passed.
 pub fn is_passed(src: &[u8], at: usize) -> bool
-    requires { ⌜ start (at + 1) ≤ length (now src) ⌝ }
+    requires { ⌜ at + 1 ≤ recordsIn (now src) ⌝ }
     ensures { λ r. ⌜ r ≡ isPassed (headAt (now (src .entry)) at .kind) ⌝ }
 {
     let kind = fields::kind_at(src, at);
@@ -79,7 +79,7 @@ pub fn is_passed(src: &[u8], at: usize) -> bool
 
 // Whether a node that is passed is listed itself. By numbers rather than a test by kind, which would often be mispredicted.
 pub fn passed_itself(src: &[u8], at: usize, settings: u8) -> bool
-    requires { ⌜ (start (at + 1) ≤ length (now src)) × (isPassed (headAt (now src) at .kind) ≡ true) ⌝ }
+    requires { ⌜ (at + 1 ≤ recordsIn (now src)) × (isPassed (headAt (now src) at .kind) ≡ true) ⌝ }
     ensures { λ r. ⌜ Passes (now (src .entry)) at (settingsWith settings) r ⌝ }
 {
     let flagged = if readings::flagged_at(src, at) {

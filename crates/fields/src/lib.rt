@@ -1,63 +1,125 @@
-// The fields of record i of a tree file, and the numbers of the kinds.
+// The fields of record i of a tree file, and where it stands.
 pub mod kind;
+pub mod offset;
 
 ghost use mathlib.Core.Path.{_≡_};
-ghost use Prim.Native.Nat.{_+_, _*_, _<_, _≤_};
-ghost use lib.ListN.{length};
-ghost use Rattle.tree.specs.Fields.{start, headAt, childrenAt, subtreeAt};
+ghost use Prim.Native.Nat.{_+_, _<_, _≤_};
+ghost use lib.ListN.{length, getD};
+ghost use Rattle.le.specs.Le.{u16At, u32At};
+ghost use Rattle.tree.specs.Offset.{behind};
+ghost use Rattle.tree.specs.Layout.{width, start};
+ghost use Rattle.tree.specs.Room.{recordsIn};
+ghost use Rattle.tree.specs.Fields.{headAt, childrenAt, subtreeAt};
+ghost use Rattle.fields.specs.Place.{asPlace};
+
+// How many bytes stand before the records.
+pub const HEADER_BYTES: usize = 8;
+
+// What a made node copies from the node that gives it its place; as a definition: specs/Place.antt.
+pub struct Place {
+    pub start: u32,
+}
+
+// How many bytes a record of src has.
+pub fn width_of(src: &[u8]) -> usize
+    ensures { λ r. ⌜ r ≡ width ⌝ }
+{
+    16
+}
+
+// How long a file of n records is, each as wide as those of src.
+pub fn file_length(src: &[u8], n: usize) -> usize
+    requires { ⌜ start n < 18446744073709551616 ⌝ }
+    ensures { λ r. ⌜ r ≡ start n ⌝ }
+{
+    HEADER_BYTES + width_of(src) * n
+}
+
+// Where record i starts, which is where a file of the records before it ends. All its fields are there.
+pub fn start_of(src: &[u8], i: usize) -> usize
+    requires { ⌜ i + 1 ≤ recordsIn (now src) ⌝ }
+    ensures { λ r. ⌜ (r ≡ start i) × (r + behind ≤ length (now (src .entry))) ⌝ }
+{
+    file_length(src, i)
+}
+
+// The field of record i that starts o bytes behind the record's start, of one byte, of two and of four.
+fn byte_at(src: &[u8], i: usize, o: usize) -> usize
+    requires { ⌜ (i + 1 ≤ recordsIn (now src)) × (o < behind) ⌝ }
+    ensures { λ r. ⌜ (r ≡ getD (now (src .entry)) (start i + o) 0) × (r < 256) ⌝ }
+{
+    le::byte(src, start_of(src, i) + o)
+}
+
+fn u16_at(src: &[u8], i: usize, o: usize) -> usize
+    requires { ⌜ (i + 1 ≤ recordsIn (now src)) × (o + 1 < behind) ⌝ }
+    ensures { λ r. ⌜ (r ≡ u16At (now (src .entry)) (start i + o)) × (r < 65536) ⌝ }
+{
+    le::get16(src, start_of(src, i) + o)
+}
+
+fn u32_at(src: &[u8], i: usize, o: usize) -> usize
+    requires { ⌜ (i + 1 ≤ recordsIn (now src)) × (o + 3 < behind) ⌝ }
+    ensures { λ r. ⌜ (r ≡ u32At (now (src .entry)) (start i + o)) × (r < 4294967296) ⌝ }
+{
+    le::get32(src, start_of(src, i) + o)
+}
 
 pub fn kind_at(src: &[u8], i: usize) -> usize
-    requires { ⌜ start (i + 1) ≤ length (now src) ⌝ }
+    requires { ⌜ i + 1 ≤ recordsIn (now src) ⌝ }
     ensures { λ r. ⌜ (r ≡ headAt (now (src .entry)) i .kind) × (r < 256) ⌝ }
 {
-    le::byte(src, 8 + 16 * i)
+    byte_at(src, i, offset::KIND)
 }
 
 pub fn facts_at(src: &[u8], i: usize) -> usize
-    requires { ⌜ start (i + 1) ≤ length (now src) ⌝ }
+    requires { ⌜ i + 1 ≤ recordsIn (now src) ⌝ }
     ensures { λ r. ⌜ (r ≡ headAt (now (src .entry)) i .facts) × (r < 256) ⌝ }
 {
-    le::byte(src, 8 + 16 * i + 1)
+    byte_at(src, i, offset::FACTS)
 }
 
 pub fn sub_at(src: &[u8], i: usize) -> usize
-    requires { ⌜ start (i + 1) ≤ length (now src) ⌝ }
+    requires { ⌜ i + 1 ≤ recordsIn (now src) ⌝ }
     ensures { λ r. ⌜ (r ≡ headAt (now (src .entry)) i .sub) × (r < 256) ⌝ }
 {
-    le::byte(src, 8 + 16 * i + 2)
+    byte_at(src, i, offset::SUB)
 }
 
 pub fn reserved_at(src: &[u8], i: usize) -> usize
-    requires { ⌜ start (i + 1) ≤ length (now src) ⌝ }
+    requires { ⌜ i + 1 ≤ recordsIn (now src) ⌝ }
     ensures { λ r. ⌜ (r ≡ headAt (now (src .entry)) i .reserved) × (r < 256) ⌝ }
 {
-    le::byte(src, 8 + 16 * i + 3)
+    byte_at(src, i, offset::RESERVED)
 }
 
 pub fn children_at(src: &[u8], i: usize) -> usize
-    requires { ⌜ start (i + 1) ≤ length (now src) ⌝ }
+    requires { ⌜ i + 1 ≤ recordsIn (now src) ⌝ }
     ensures { λ r. ⌜ (r ≡ childrenAt (now (src .entry)) i) × (r < 65536) ⌝ }
 {
-    le::get16(src, 8 + 16 * i + 4)
+    u16_at(src, i, offset::CHILDREN)
 }
 
 pub fn subtree_at(src: &[u8], i: usize) -> usize
-    requires { ⌜ start (i + 1) ≤ length (now src) ⌝ }
+    requires { ⌜ i + 1 ≤ recordsIn (now src) ⌝ }
     ensures { λ r. ⌜ (r ≡ subtreeAt (now (src .entry)) i) × (r < 65536) ⌝ }
 {
-    le::get16(src, 8 + 16 * i + 6)
+    u16_at(src, i, offset::SUBTREE)
 }
 
 pub fn text_at(src: &[u8], i: usize) -> usize
-    requires { ⌜ start (i + 1) ≤ length (now src) ⌝ }
+    requires { ⌜ i + 1 ≤ recordsIn (now src) ⌝ }
     ensures { λ r. ⌜ (r ≡ headAt (now (src .entry)) i .text) × (r < 4294967296) ⌝ }
 {
-    le::get32(src, 8 + 16 * i + 8)
+    u32_at(src, i, offset::TEXT)
 }
 
-pub fn place_at(src: &[u8], i: usize) -> usize
-    requires { ⌜ start (i + 1) ≤ length (now src) ⌝ }
-    ensures { λ r. ⌜ (r ≡ headAt (now (src .entry)) i .place) × (r < 4294967296) ⌝ }
+pub fn place_at(src: &[u8], i: usize) -> Place
+    requires { ⌜ i + 1 ≤ recordsIn (now src) ⌝ }
+    ensures { λ r. ⌜ asPlace r ≡ headAt (now (src .entry)) i .place ⌝ }
 {
-    le::get32(src, 8 + 16 * i + 12)
+    let start = u32_at(src, i, offset::PLACE);
+    Place {
+        start: start as u32,
+    }
 }

@@ -8,6 +8,7 @@ use native.Mathlib.Omega.{arith}
 use lib.Dec.{eqb, ltb}
 use borrow.Author.Tests.{ltb-false, lt-ltb, le-ltb, ne-eqb}
 use Rattle.tree.specs.Tree.{Head}
+use Rattle.tree.specs.Heads.{bare}
 use Rattle.tree.specs.Below.{allBelow, all-at, lt-or-le}
 use Rattle.tree.specs.Fields.{headAt}
 use Rattle.tree.specs.Children.{firstIsExpression, mayStand}
@@ -78,12 +79,9 @@ firstUnder k sub kinds =
 abbrev pub Permits : ℕ → Head → Bool → Type 0
 Permits kinds h first = (k : ℕ) → holds kinds k ≡ mayStand h first k
 
-abbrev ofKind : ℕ → Head
-ofKind k = record { kind = k; facts = 0; sub = 0; reserved = 0; text = 0; place = 0 }
-
 -- One test, computed over the kinds below 32 of parent and child; beyond them no kind is told apart.
 permits-bit : ℕ → ℕ → Bool
-permits-bit k c = agree (holds (kindsUnder k) c) (mayStand (ofKind k) false c)
+permits-bit k c = agree (holds (kindsUnder k) c) (mayStand (bare k 0) false c)
 
 permits-row : ℕ → Bool
 permits-row k = allBelow (permits-bit k) 32
@@ -92,10 +90,10 @@ permits-table : allBelow permits-row 32 ≡ true
 unfolding permits-row permits-bit holds kindsUnder mayStand allBelow
 permits-table = refl
 
-permits-below : (k c : ℕ) → k < 32 → c < 32 → holds (kindsUnder k) c ≡ mayStand (ofKind k) false c
+permits-below : (k c : ℕ) → k < 32 → c < 32 → holds (kindsUnder k) c ≡ mayStand (bare k 0) false c
 unfolding permits-row permits-bit
 permits-below k c lk lc =
-    agree-same (holds (kindsUnder k) c) (mayStand (ofKind k) false c) (all-at (permits-bit k) 32 (all-at permits-row 32 permits-table k lk) c lc)
+    agree-same (holds (kindsUnder k) c) (mayStand (bare k 0) false c) (all-at (permits-bit k) 32 (all-at permits-row 32 permits-table k lk) c lc)
 
 holds-beyond : (kinds c : ℕ) → 31 < c → holds kinds c ≡ eqb (kinds / 2 ^ 31 % 2) 1
 unfolding holds
@@ -114,22 +112,22 @@ unfolding kindsUnder
 under-beyond k l =
     rw (ne-eqb k kind.class (λ e. omega arith), ne-eqb k kind.new (λ e. omega arith), ne-eqb k kind.call (λ e. omega arith), ne-eqb k kind.object (λ e. omega arith), ne-eqb k kind.array (λ e. omega arith))
 
-takes-beyond : (k c : ℕ) → 31 < k → mayStand (ofKind k) false c ≡ mayStand (ofKind 0) false c
+takes-beyond : (k c : ℕ) → 31 < k → mayStand (bare k 0) false c ≡ mayStand (bare 0 0) false c
 unfolding mayStand
 takes-beyond k c l =
     rw (ne-eqb k kind.class (λ e. omega arith), ne-eqb k kind.new (λ e. omega arith), ne-eqb k kind.call (λ e. omega arith), ne-eqb k kind.object (λ e. omega arith), ne-eqb k kind.array (λ e. omega arith))
 
-permits-child : (k c : ℕ) → c < 32 → holds (kindsUnder k) c ≡ mayStand (ofKind k) false c
+permits-child : (k c : ℕ) → c < 32 → holds (kindsUnder k) c ≡ mayStand (bare k 0) false c
 permits-child k c l =
     ⊎-elim (λ (b : k < 32). permits-below k c b l)
     (λ (b : 32 ≤ k). ap (λ (n : ℕ). holds n c) (under-beyond k (omega arith)) ∙ permits-below 0 c (omega arith) l ∙ sym (takes-beyond k c (omega arith)))
     (lt-or-le k 32)
 
-permits-kind : (k : ℕ) → Permits (kindsUnder k) (ofKind k) false
+permits-kind : (k : ℕ) → Permits (kindsUnder k) (bare k 0) false
 permits-kind k c =
     ⊎-elim (λ (b : c < 32). permits-child k c b)
     (λ (b : 32 ≤ c).
-    holds-beyond (kindsUnder k) c (omega arith) ∙ sym (holds-below (kindsUnder k) 31 (omega arith)) ∙ permits-child k 31 (omega arith) ∙ sym (stand-beyond (ofKind k) c (omega arith)))
+    holds-beyond (kindsUnder k) c (omega arith) ∙ sym (holds-below (kindsUnder k) 31 (omega arith)) ∙ permits-child k 31 (omega arith) ∙ sym (stand-beyond (bare k 0) c (omega arith)))
     (lt-or-le c 32)
 
 pub permits-others : (h : Head) {k kinds : ℕ} → k ≡ h .kind → kinds ≡ kindsUnder k → Permits kinds h false

@@ -4,14 +4,14 @@ use mathlib.Core.Bool.{Bool, true, false}
 use mathlib.Core.List.{List, [], _∷_}
 use Prim.Native.Nat.{ℕ, _<_, _≤_}
 use native.Mathlib.Omega.{arith}
-use lib.ListN.{length}
 use Rattle.stated.specs.Stated.{refused, answered}
 use Rattle.tree.specs.Tree.{one, levels, depth}
 use Rattle.tree.specs.Below.{allBelow}
 use Rattle.tree.specs.Record.{recordOk, included}
-use Rattle.tree.specs.Fields.{settingsOf, countOf, start, headAt}
+use Rattle.tree.specs.Room.{recordsIn}
+use Rattle.tree.specs.Fields.{settingsOf, countOf, headAt}
 use Rattle.tree.specs.Refusal.{Limits, markOk, versionOk, settingsOk, countOk, recordsOk, allIncluded, shapeOk, treeOf, depthOk, refusal}
-use Rattle.tree.specs.Accepted.{Counted, counted-parts, Rooted, rooted}
+use Rattle.tree.specs.Accepted.{Counted, counted-parts, counted-room, Rooted, rooted}
 use Rattle.file.specs.Answer.{statedOf, verdict}
 use Rattle.tree.specs.Walk.{Holds, Held}
 use Rattle.file.specs.Depth.{Low}
@@ -52,8 +52,8 @@ module _ {limits : Limits} {s : List ℕ} {n : ℕ} (h : Headed limits s n) wher
   counted-n : Counted (limits .records) s
   counted-n = counted-parts (limits .records) s (h .counted)
 
-  pub headed-inside : start n ≤ length s
-  headed-inside = omega (arith, h .isN, counted-n .long)
+  pub headed-inside : n ≤ recordsIn s
+  headed-inside = omega (arith, h .isN, counted-room counted-n)
 
   pub headed-some : 0 < n
   headed-some = omega (arith, h .isN, counted-n .some)

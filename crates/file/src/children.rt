@@ -3,9 +3,9 @@ use fields::kind;
 ghost use mathlib.Core.Path.{_≡_};
 ghost use mathlib.Core.Bool.{true, cond};
 ghost use Prim.Native.Nat.{_+_, _<_, _≤_};
-ghost use lib.ListN.{length};
 ghost use Rattle.tree.specs.Kind.{isExpression};
-ghost use Rattle.tree.specs.Fields.{start, countOf, headAt, childrenAt};
+ghost use Rattle.tree.specs.Room.{recordsIn};
+ghost use Rattle.tree.specs.Fields.{countOf, headAt, childrenAt};
 ghost use Rattle.tree.specs.Children.{childCountOk};
 ghost use Rattle.tree.specs.Refusal.{childrenEnd, shapeAt, shapeOk};
 ghost use Rattle.file.specs.Bounds.{leastChildren, mostChildren, countWithin};
@@ -70,7 +70,7 @@ fn count_within(kind: usize, n: usize) -> bool
 }
 
 fn child_count_ok(src: &[u8], i: usize) -> bool
-    requires { ⌜ start (i + 1) ≤ length (now src) ⌝ }
+    requires { ⌜ i + 1 ≤ recordsIn (now src) ⌝ }
     ensures { λ r. ⌜ r ≡ childCountOk (headAt (now (src .entry)) i) (childrenAt (now (src .entry)) i) ⌝ }
 {
     let kind = fields::kind_at(src, i);
@@ -121,7 +121,7 @@ fn has(kinds: usize, kind: usize) -> bool
 
 // Whether n children of record i, from record i + 1 on, end exactly at record end, and each may stand there.
 fn children_end(src: &[u8], i: usize, n: usize, end: usize) -> bool
-    requires { ⌜ (start end ≤ length (now src)) × (i < end) ⌝ }
+    requires { ⌜ (end ≤ recordsIn (now src)) × (i < end) ⌝ }
     ensures { λ r. ⌜ r ≡ childrenEnd (now (src .entry)) (headAt (now (src .entry)) i) true n (i + 1) end ⌝ }
 {
     let kind = fields::kind_at(src, i);
@@ -151,7 +151,7 @@ fn children_end(src: &[u8], i: usize, n: usize, end: usize) -> bool
 }
 
 fn shape_at(src: &[u8], n: usize, i: usize) -> bool
-    requires { ⌜ (start n ≤ length (now src)) × (i < n) ⌝ }
+    requires { ⌜ (n ≤ recordsIn (now src)) × (i < n) ⌝ }
     ensures { λ r. ⌜ r ≡ shapeAt (now (src .entry)) n i ⌝ }
 {
     let size = fields::subtree_at(src, i);
@@ -169,7 +169,7 @@ fn shape_at(src: &[u8], n: usize, i: usize) -> bool
 
 // Linear: record i is looked at once as itself and, as long as no record has failed, once as a child.
 pub fn shape_ok(src: &[u8], n: usize) -> bool
-    requires { ⌜ (start n ≤ length (now src)) × (n ≡ countOf (now src)) × (0 < n) ⌝ }
+    requires { ⌜ (n ≤ recordsIn (now src)) × (n ≡ countOf (now src)) × (0 < n) ⌝ }
     ensures { λ r. ⌜ r ≡ shapeOk (now (src .entry)) ⌝ }
 {
     if fields::subtree_at(src, 0) != n {

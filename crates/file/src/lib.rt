@@ -28,7 +28,7 @@ pub enum Checked {
 fn mark_ok(src: &[u8]) -> bool
     ensures { λ r. ⌜ r ≡ markOk (now (src .entry)) ⌝ }
 {
-    if src.len() < 8 {
+    if src.len() < fields::HEADER_BYTES {
         return false;
     }
     if src[0] != b'U' {
@@ -50,7 +50,7 @@ fn count_ok(src: &[u8], n: usize, most: usize) -> bool
     if most < n {
         return false;
     }
-    src.len() == 8 + 16 * n
+    src.len() == fields::file_length(src, n)
 }
 
 // Whether src is a tree file of at most so many records and levels.

@@ -2,9 +2,9 @@
 use fields::kind;
 ghost use mathlib.Core.Path.{_≡_};
 ghost use Prim.Native.Nat.{_+_, _<_, _≤_};
-ghost use lib.ListN.{length};
 ghost use Rattle.tree.specs.Below.{allBelow};
-ghost use Rattle.tree.specs.Fields.{start, headAt};
+ghost use Rattle.tree.specs.Room.{recordsIn};
+ghost use Rattle.tree.specs.Fields.{headAt};
 ghost use Rattle.tree.specs.Record.{allowedFacts, pairsOk, factsOk, elementSubOk, subOk, recordOk, included};
 ghost use Rattle.file.specs.Facts.{allowedTable};
 ghost use Rattle.file.specs.Bounds.{leastSub, mostSub};
@@ -57,7 +57,7 @@ fn pairs_ok(facts: usize) -> bool
 }
 
 fn facts_ok(src: &[u8], i: usize, table: &[u8; 23]) -> bool
-    requires { ⌜ (start (i + 1) ≤ length (now src)) × (headAt (now src) i .kind < 23) × (now table ≡ allowedTable) ⌝ }
+    requires { ⌜ (i + 1 ≤ recordsIn (now src)) × (headAt (now src) i .kind < 23) × (now table ≡ allowedTable) ⌝ }
     ensures { λ r. ⌜ r ≡ factsOk (headAt (now (src .entry)) i) ⌝ }
 {
     let kind = fields::kind_at(src, i);
@@ -131,7 +131,7 @@ fn most_sub(kind: usize) -> usize
 
 // Two bounds by kind rather than a test by kind, which would often be mispredicted.
 fn sub_ok(src: &[u8], i: usize) -> bool
-    requires { ⌜ start (i + 1) ≤ length (now src) ⌝ }
+    requires { ⌜ i + 1 ≤ recordsIn (now src) ⌝ }
     ensures { λ r. ⌜ r ≡ subOk (headAt (now (src .entry)) i) ⌝ }
 {
     let kind = fields::kind_at(src, i);
@@ -146,7 +146,7 @@ fn sub_ok(src: &[u8], i: usize) -> bool
 }
 
 fn record_ok(src: &[u8], i: usize, table: &[u8; 23]) -> bool
-    requires { ⌜ (start (i + 1) ≤ length (now src)) × (now table ≡ allowedTable) ⌝ }
+    requires { ⌜ (i + 1 ≤ recordsIn (now src)) × (now table ≡ allowedTable) ⌝ }
     ensures { λ r. ⌜ r ≡ recordOk (headAt (now (src .entry)) i) ⌝ }
 {
     let kind = fields::kind_at(src, i);
@@ -166,7 +166,7 @@ fn record_ok(src: &[u8], i: usize, table: &[u8; 23]) -> bool
 }
 
 fn included(src: &[u8], i: usize) -> bool
-    requires { ⌜ start (i + 1) ≤ length (now src) ⌝ }
+    requires { ⌜ i + 1 ≤ recordsIn (now src) ⌝ }
     ensures { λ r. ⌜ r ≡ included (headAt (now (src .entry)) i) ⌝ }
 {
     let kind = fields::kind_at(src, i);
@@ -181,7 +181,7 @@ fn included(src: &[u8], i: usize) -> bool
 
 // Whether each of the first n records passes the test of refusal 5.
 pub fn records_ok(src: &[u8], n: usize) -> bool
-    requires { ⌜ start n ≤ length (now src) ⌝ }
+    requires { ⌜ n ≤ recordsIn (now src) ⌝ }
     ensures { λ r. ⌜ r ≡ allBelow (λ i. recordOk (headAt (now (src .entry)) i)) n ⌝ }
 {
     let table = ALLOWED_FACTS;
@@ -198,7 +198,7 @@ pub fn records_ok(src: &[u8], n: usize) -> bool
 
 // Whether each of the first n records passes the test of refusal 6.
 pub fn all_included(src: &[u8], n: usize) -> bool
-    requires { ⌜ start n ≤ length (now src) ⌝ }
+    requires { ⌜ n ≤ recordsIn (now src) ⌝ }
     ensures { λ r. ⌜ r ≡ allBelow (λ i. included (headAt (now (src .entry)) i)) n ⌝ }
 {
     let mut i = 0;

@@ -8,9 +8,11 @@ use native.Mathlib.Nat.{eq-or-lt-of-le}
 use lib.ListN.{length, getD, set, length-set}
 use lib.Seq.{getD-set-same, getD-set-other}
 use Rattle.le.specs.Le.{u16At, u32At, set16, set32}
-use Rattle.le.specs.Laws.{u16-same, u32-same, u16-set16, u32-set32, getD-set16-other, getD-set32-other, length-set16, length-set32}
-use Rattle.tree.specs.Tree.{Head}
-use Rattle.tree.specs.Fields.{start, headAt, childrenAt, subtreeAt}
+use Rattle.le.specs.Laws.{u16-same, u32-same, u16-set16, u32-set32, getD-set16-other, getD-set32-other, length-set16}
+use Rattle.tree.specs.Tree.{Place}
+use Rattle.tree.specs.Offset as offset
+use Rattle.tree.specs.Layout.{start}
+use Rattle.tree.specs.Fields.{placeFrom, headAt}
 
 -- The first n bytes are as they were.
 pub record Agree (old new : List ℕ) (n : ℕ) : Type 0 where
@@ -30,38 +32,30 @@ pub record Moved (s : List ℕ) (p n : ℕ) (old new : List ℕ) (q : ℕ) : Typ
   pub below : Agree old new q
   pub above : Kept old new (q + n)
 
--- n bytes were moved down by a record, to q, and all else is as it was.
-pub record Shifted (old new : List ℕ) (q n : ℕ) : Type 0 where
-  pub there : Copied old (q + 16) new q n
-  pub below : Agree old new q
-  pub above : Kept old new (q + n)
-
 -- The counts of the record at the front were set, and all else is as it was.
 pub record Patched (old new : List ℕ) (n z : ℕ) : Type 0 where
-  pub children : u16At new 4 ≡ n
-  pub subtree : u16At new 6 ≡ z
-  pub below : Agree old new 4
-  pub above : Kept old new 8
+  pub children : u16At new offset.children ≡ n
+  pub subtree : u16At new offset.subtree ≡ z
+  pub below : Agree old new offset.children
+  pub above : Kept old new offset.text
+
+-- The place of the record at the front was set, and all else is as it was.
+pub record Placed (old new : List ℕ) (place : Place) : Type 0 where
+  pub place-is : placeFrom new offset.place ≡ place
+  pub below : Agree old new offset.place
+  pub above : Kept old new offset.behind
 
 -- The record at the front was made anew, and all else is as it was.
-pub record Made (old new : List ℕ) (kind facts place n z : ℕ) : Type 0 where
-  pub kind-is : getD new 0 0 ≡ kind
-  pub facts-is : getD new 1 0 ≡ facts
-  pub sub-is : getD new 2 0 ≡ 0
-  pub reserved-is : getD new 3 0 ≡ 0
-  pub children : u16At new 4 ≡ n
-  pub subtree : u16At new 6 ≡ z
-  pub text-is : u32At new 8 ≡ 0
-  pub place-is : u32At new 12 ≡ place
-  pub above : Kept old new 16
-
--- Record pos says h, has n children and takes z records; all else is as it was.
-pub record Recorded (old new : List ℕ) (pos : ℕ) (h : Head) (n z : ℕ) : Type 0 where
-  pub head : headAt new pos ≡ h
-  pub children : childrenAt new pos ≡ n
-  pub subtree : subtreeAt new pos ≡ z
-  pub below : Agree old new (start pos)
-  pub above : Kept old new (start (pos + 1))
+pub record Made (old new : List ℕ) (kind facts : ℕ) (place : Place) (n z : ℕ) : Type 0 where
+  pub kind-is : getD new offset.kind 0 ≡ kind
+  pub facts-is : getD new offset.facts 0 ≡ facts
+  pub sub-is : getD new offset.sub 0 ≡ 0
+  pub reserved-is : getD new offset.reserved 0 ≡ 0
+  pub children : u16At new offset.children ≡ n
+  pub subtree : u16At new offset.subtree ≡ z
+  pub text-is : u32At new offset.text ≡ 0
+  pub place-is : placeFrom new offset.place ≡ place
+  pub above : Kept old new offset.behind
 
 pub agree-all : (s : List ℕ) (n : ℕ) → Agree s s n
 agree-all s n = record { same = λ k l. refl }
@@ -93,16 +87,21 @@ module _ {s s′ : List ℕ} {p q n : ℕ} (c : Copied s p s′ q n) where
   pub copied-u32 : (i j k : ℕ) → i ≡ q + k → j ≡ p + k → k + 4 ≤ n → u32At s′ i ≡ u32At s j
   copied-u32 i j k a b h = u32-same s s′ j i (copied-u16 i j k a b (omega arith)) (copied-u16 (i + 2) (j + 2) (k + 2) (omega arith) (omega arith) (omega arith))
 
+-- A place is copied with its bytes.
+pub place-copied : {s s′ : List ℕ} {p q n : ℕ} → Copied s p s′ q n → (i j k : ℕ) → i ≡ q + k → j ≡ p + k → k + 4 ≤ n → placeFrom s′ i ≡ placeFrom s j
+place-copied c i j k a b h = let e = copied-u32 c i j k a b h in λ x. record { start = e x }
+
 -- The head of a record, of which the counts need not be copied.
-pub head-copied : {s s′ : List ℕ} (i j : ℕ) → Copied s (start i) s′ (start j) 4 → Copied s (start i + 8) s′ (start j + 8) 8 → headAt s′ j ≡ headAt s i
-head-copied {s} {s′} i j a b =
-    let k0 : getD s′ (start j) 0 ≡ getD s (start i) 0 = copied-at a (start j) (start i) 0 (omega arith) (omega arith) (omega arith) in
-    let k1 = a .same 1 (omega arith) in
-    let k2 = a .same 2 (omega arith) in
-    let k3 = a .same 3 (omega arith) in
-    let t : u32At s′ (start j + 8) ≡ u32At s (start i + 8) = copied-u32 b (start j + 8) (start i + 8) 0 (omega arith) (omega arith) (omega arith) in
-    let p : u32At s′ (start j + 12) ≡ u32At s (start i + 12) = copied-u32 b (start j + 12) (start i + 12) 4 (omega arith) (omega arith) (omega arith) in
-    λ x. record { kind = k0 x; facts = k1 x; sub = k2 x; reserved = k3 x; text = t x; place = p x }
+pub head-same : {s s′ : List ℕ} (i j : ℕ) → Copied s (start i) s′ (start j) offset.children
+    → Copied s (start i + offset.text) s′ (start j + offset.text) (offset.behind - offset.text) → headAt s′ j ≡ headAt s i
+head-same {s} {s′} i j a b =
+    let k = a .same offset.kind (omega arith) in
+    let f = a .same offset.facts (omega arith) in
+    let u = a .same offset.sub (omega arith) in
+    let r = a .same offset.reserved (omega arith) in
+    let t = copied-u32 b (start j + offset.text) (start i + offset.text) 0 (omega arith) (omega arith) (omega arith) in
+    let p = place-copied b (start j + offset.place) (start i + offset.place) (offset.place - offset.text) (omega arith) (omega arith) (omega arith) in
+    λ x. record { kind = k x; facts = f x; sub = u x; reserved = r x; text = t x; place = p x }
 
 -- The copy, a byte at a time.
 pub moved-none : (s : List ℕ) (p : ℕ) (old : List ℕ) (q : ℕ) → Moved s p 0 old old q
@@ -123,26 +122,26 @@ moved-more {s} {p} {i} {old} {out} {q} m h = record {
   above = record { same = λ k l. let n : k ≢ q + i = omega arith in rw getD-set-other (m .above .same k (omega arith)) };
 }
 
--- The move, a byte at a time: those up to byte q of the buffer have been moved.
-pub record Shifting (old new : List ℕ) (to q : ℕ) : Type 0 where
-  pub shifted : Shifted old new to (q - to)
+-- The move down by w, a byte at a time: those up to byte q of the buffer have been moved.
+pub record Shifting (old new : List ℕ) (to q w : ℕ) : Type 0 where
+  pub shifted : Moved old (to + w) (q - to) old new to
   pub ahead : to ≤ q
 
-pub shifting-none : (old : List ℕ) (to : ℕ) → Shifting old old to to
-shifting-none old to = record {
+pub shifting-none : (old : List ℕ) (to w : ℕ) → Shifting old old to to w
+shifting-none old to w = record {
   shifted = record { there = record { same = λ k l. absurd (omega arith) }; below = agree-all old to; above = record { same = λ k l. refl } };
   ahead = omega arith;
 }
 
-pub shifting-more : {old new : List ℕ} {to q : ℕ} → Shifting old new to q → q < length new → Shifting old (set new q (getD new (q + 16) 0)) to (q + 1)
-shifting-more {old} {new} {to} {q} m h =
+pub shifting-more : {old new : List ℕ} {to q w : ℕ} → Shifting old new to q w → q < length new → Shifting old (set new q (getD new (q + w) 0)) to (q + 1) w
+shifting-more {old} {new} {to} {q} {w} m h =
     let a = m .ahead in
-    let there : (k : ℕ) → k < q + 1 - to → getD (set new q (getD new (q + 16) 0)) (to + k) 0 ≡ getD old (to + 16 + k) 0 =
+    let there : (k : ℕ) → k < q + 1 - to → getD (set new q (getD new (q + w) 0)) (to + k) 0 ≡ getD old (to + w + k) 0 =
     λ k l.
     ⊎-elim (λ (e : k ≡ q - to).
     let x : to + k ≡ q = omega arith in
-    let y : q + 16 ≡ to + 16 + k = omega arith in
-    rw x (getD-set-same new q _ 0 h ∙ m .shifted .above .same (q + 16) (omega arith) ∙ ap (λ (j : ℕ). getD old j 0) y))
+    let y : q + w ≡ to + w + k = omega arith in
+    rw x (getD-set-same new q _ 0 h ∙ m .shifted .above .same (q + w) (omega arith) ∙ ap (λ (j : ℕ). getD old j 0) y))
     (λ (e : k < q - to). let n : to + k ≢ q = omega arith in rw getD-set-other (m .shifted .there .same k e)) (eq-or-lt-of-le (omega arith)) in
     record {
       shifted = record {
@@ -153,7 +152,7 @@ shifting-more {old} {new} {to} {q} m h =
       ahead = omega arith;
     }
 
-pub patched : {old new : List ℕ} {n z : ℕ} → new ≡ set16 (set16 old 4 n) 6 z → 16 ≤ length old → Patched old new n z
+pub patched : {old new : List ℕ} {n z : ℕ} → new ≡ set16 (set16 old offset.children n) offset.subtree z → offset.behind ≤ length old → Patched old new n z
 patched {old} {new} {n} {z} e h =
     let o : (k : ℕ) → k ≢ 4 → k ≢ 5 → k ≢ 6 → k ≢ 7 → getD new k 0 ≡ getD old k 0 = λ k a b c d. rw (e, getD-set16-other (set16 old 4 n) 6 z k c d, getD-set16-other old 4 n k a b) in
     record {
@@ -166,20 +165,29 @@ patched {old} {new} {n} {z} e h =
       above = record { same = λ k l. o k (omega arith) (omega arith) (omega arith) (omega arith) };
     }
 
+pub placed : {old new : List ℕ} (place : Place) → new ≡ set32 old offset.place (place .start) → offset.behind ≤ length old → Placed old new place
+placed {old} {new} place e h =
+    let v = place .start in
+    let p : u32At new offset.place ≡ v = rw e (u32-set32 old offset.place v (omega arith)) in
+    record {
+      place-is = λ x. record { start = p x };
+      below = record { same = λ k l. rw e (getD-set32-other old offset.place v k (inl l)) };
+      above = record { same = λ k l. rw e (getD-set32-other old offset.place v k (inr l)) };
+    }
+
 -- A record made anew, a field at a time.
-pub made-of : {old a b c d new : List ℕ} {kind facts place n z : ℕ}
-    → a ≡ set (set (set (set old 0 kind) 1 facts) 2 0) 3 0 → b ≡ set16 a 4 n → c ≡ set16 b 6 z → d ≡ set32 c 8 0 → new ≡ set32 d 12 place
-    → 16 ≤ length old → Made old new kind facts place n z
+pub made-of : {old a b c d new : List ℕ} {kind facts : ℕ} {place : Place} {n z : ℕ}
+    → a ≡ set (set (set (set old offset.kind kind) offset.facts facts) offset.sub 0) offset.reserved 0 → b ≡ set16 a offset.children n
+    → c ≡ set16 b offset.subtree z → d ≡ set32 c offset.text 0 → Placed d new place → offset.behind ≤ length old → Made old new kind facts place n z
 made-of {old} {a} {b} {c} {d} {new} {kind} {facts} {place} {n} {z} ea eb ec ed en h =
     let la : length a ≡ length old = rw ea (simp length-set) in
     let lb : length b ≡ length a = rw eb (length-set16 a 4 n) in
     let lc : length c ≡ length b = rw ec (length-set16 b 6 z) in
-    let ld : length d ≡ length c = rw ed (length-set32 c 8 0) in
-    let n-d : (k : ℕ) → (k < 12) ⊎ (16 ≤ k) → getD new k 0 ≡ getD d k 0 = λ k o. rw en (getD-set32-other d 12 place k o) in
     let d-c : (k : ℕ) → (k < 8) ⊎ (12 ≤ k) → getD d k 0 ≡ getD c k 0 = λ k o. rw ed (getD-set32-other c 8 0 k o) in
     let c-b : (k : ℕ) → k ≢ 6 → k ≢ 7 → getD c k 0 ≡ getD b k 0 = λ k x y. rw ec (getD-set16-other b 6 z k x y) in
     let b-a : (k : ℕ) → k ≢ 4 → k ≢ 5 → getD b k 0 ≡ getD a k 0 = λ k x y. rw eb (getD-set16-other a 4 n k x y) in
-    let n-c : (k : ℕ) → k < 8 → getD new k 0 ≡ getD c k 0 = λ k l. n-d k (inl (omega arith)) ∙ d-c k (inl l) in
+    let n-d : (k : ℕ) → k < 12 → getD new k 0 ≡ getD d k 0 = en .below .same in
+    let n-c : (k : ℕ) → k < 8 → getD new k 0 ≡ getD c k 0 = λ k l. n-d k (omega arith) ∙ d-c k (inl l) in
     let low : (k : ℕ) → k < 4 → getD new k 0 ≡ getD a k 0 = λ k l. n-c k (omega arith) ∙ c-b k (omega arith) (omega arith) ∙ b-a k (omega arith) (omega arith) in
     let s1 : List ℕ = set old 0 kind in
     let s2 : List ℕ = set s1 1 facts in
@@ -199,12 +207,12 @@ made-of {old} {a} {b} {c} {d} {new} {kind} {facts} {place} {n} {z} ea eb ec ed e
           u16-same b new 4 4 (n-c 4 (omega arith) ∙ c-b 4 (omega arith) (omega arith)) (n-c 5 (omega arith) ∙ c-b 5 (omega arith) (omega arith)) ∙ rw eb (u16-set16 a 4 n (omega arith));
       subtree = u16-same c new 6 6 (n-c 6 (omega arith)) (n-c 7 (omega arith)) ∙ rw ec (u16-set16 b 6 z (omega arith));
       text-is =
-          u32-same d new 8 8 (u16-same d new 8 8 (n-d 8 (inl (omega arith))) (n-d 9 (inl (omega arith)))) (u16-same d new 10 10 (n-d 10 (inl (omega arith))) (n-d 11 (inl (omega arith))))
+          u32-same d new 8 8 (u16-same d new 8 8 (n-d 8 (omega arith)) (n-d 9 (omega arith))) (u16-same d new 10 10 (n-d 10 (omega arith)) (n-d 11 (omega arith)))
           ∙ rw ed (u32-set32 c 8 0 (omega arith));
-      place-is = rw en (u32-set32 d 12 place (omega arith));
+      place-is = en .place-is;
       above = record {
         same = λ k l.
-            n-d k (inr l)
+            en .above .same k l
             ∙ d-c k (inr (omega arith))
             ∙ c-b k (omega arith) (omega arith)
             ∙ b-a k (omega arith) (omega arith)

@@ -1,40 +1,39 @@
 -- Trees of the input that are to be written.
 use mathlib.Core.Path.{_≡_, sym, subst}
 use mathlib.Core.List.{List, [], _∷_}
-use Prim.Native.Nat.{ℕ, _+_, _*_, _≤_}
+use Prim.Native.Nat.{ℕ, _+_, _≤_}
 use native.Mathlib.Omega.{arith}
-use lib.ListN.{length}
 use Rattle.tree.specs.Tree.{Forest, Tree, trees, one, records, forest-trees}
-use Rattle.tree.specs.Fields.{start}
+use Rattle.tree.specs.Room.{recordsIn}
 use Rattle.tree.specs.Stands.{Stands}
 use Rattle.readings.specs.Input.{Input}
 use Rattle.readings.specs.Split.{some-size}
-use Rattle.output.specs.Bytes.{Moved}
+use Rattle.output.specs.Records.{MovedRecords}
 use Rattle.output.specs.Trees.{Wrote, CopiedTree, stands-copied}
 
--- A list of trees stands from record `at` on, in `size` records, and there is room for as many from record pos on.
+-- A list of trees stands from record `at` on, in `size` records, and as many fit from record pos on where there is room for so many.
 pub record GivenList (s : List ℕ) (at size pos room : ℕ) : Type 0 where
   pub forest : Forest
   pub depth : ℕ
   pub input : Input s at size depth forest
-  pub fits : start (pos + size) ≤ room
+  pub fits : pos + size ≤ room
 
 -- The same of one tree.
 pub record GivenTree (s : List ℕ) (at size pos room : ℕ) : Type 0 where
   pub tree : Tree
   pub depth : ℕ
   pub input : Input s at size depth (one tree)
-  pub fits : start (pos + size) ≤ room
+  pub fits : pos + size ≤ room
 
 module _ {s : List ℕ} {at size pos : ℕ} where
-  pub given-inside : {room : ℕ} → GivenTree s at size pos room → start (at + 1) ≤ length s
+  pub given-inside : {room : ℕ} → GivenTree s at size pos room → at + 1 ≤ recordsIn s
   given-inside g = omega (arith, g .input .inside, some-size (g .input))
 
   module _ {old new : List ℕ} {depth : ℕ} where
     pub copied-wrote : {r : ℕ} (t : Tree) → Input s at size depth (one t) → CopiedTree s at size old new pos r → Wrote old new pos r (t ∷ [])
     copied-wrote t i c = c .by t (i .holds .stands) (omega (arith, i .holds .sized))
 
-    pub copied-list : (f : Forest) → Input s at size depth f → Moved s (start at) (16 * size) old new (start pos) → Wrote old new pos (pos + size) (trees f)
+    pub copied-list : (f : Forest) → Input s at size depth f → MovedRecords s at size old new pos → Wrote old new pos (pos + size) (trees f)
     copied-list f i m =
         let x = sym (forest-trees f) in
         let n = i .holds .sized in

@@ -1,4 +1,5 @@
 pub mod Bytes
+pub mod Records
 pub mod Parts
 pub mod Trees
 pub mod Lists

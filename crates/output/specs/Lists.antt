@@ -8,7 +8,8 @@ use lib.Dec.{eqb}
 use lib.ListN.{length}
 use borrow.Author.Tests.{eq-eqb, ne-eqb}
 use Rattle.tree.specs.Tree.{Head, Tree, records}
-use Rattle.tree.specs.Fields.{start, headAt, subtreeAt}
+use Rattle.tree.specs.Room.{recordsIn}
+use Rattle.tree.specs.Fields.{headAt, subtreeAt}
 use Rattle.rules.specs.Lists.{any}
 use Rattle.rules.specs.Handler.{isKind}
 use Rattle.readings.specs.Node.{Node, SomeNode, Tells}
@@ -18,7 +19,7 @@ use Rattle.output.specs.Trees.{Spans}
 pub record Spanned (s : List ℕ) (p e : ℕ) : Type 0 where
   pub list : List Tree
   pub spans : Spans s p e list
-  pub inside : start e ≤ length s
+  pub inside : e ≤ recordsIn s
 
 -- n is the number of the trees that stand there.
 pub record Counts (s : List ℕ) (p e n : ℕ) : Type 0 where
@@ -36,7 +37,7 @@ module _ {s : List ℕ} {p e : ℕ} where
   pub rest-spans : (t : Tree) (ts : List Tree) → Spans s p e (t ∷ ts) → Spans s (p + subtreeAt s p) e ts
   rest-spans t ts d = let m : subtreeAt s p ≡ suc (records (t .kids)) = d .stands .2 in record { stands = rw m (d .stands .4); ends = omega (arith, d .ends) }
 
-  pub first-node : (t : Tree) (ts : List Tree) → Spans s p e (t ∷ ts) → start e ≤ length s → Node s p t
+  pub first-node : (t : Tree) (ts : List Tree) → Spans s p e (t ∷ ts) → e ≤ recordsIn s → Node s p t
   first-node t ts d l = record { stands = (d .stands .0, d .stands .1, d .stands .2, d .stands .3, tt); inside = omega (arith, d .ends) }
 
   module _ (g : Spanned s p e) (l : p < e) where
@@ -47,7 +48,7 @@ module _ {s : List ℕ} {p e : ℕ} where
         go [] d = absurd (omega (arith, d .ends))
         go (t ∷ ts) d = record { tree = t; node = first-node t ts d (g .inside) }
 
-    pub spanned-inside : start (p + 1) ≤ length s
+    pub spanned-inside : p + 1 ≤ recordsIn s
     spanned-inside = omega (arith, spanned-node .node .inside)
 
     pub spanned-some : 1 ≤ subtreeAt s p

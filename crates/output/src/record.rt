@@ -1,11 +1,15 @@
 // Records copied, moved, kept and made.
-ghost use mathlib.Core.Path.{_≡_};
-ghost use Prim.Native.Nat.{_+_, _*_, _<_, _≤_};
+use fields::Place;
+use fields::offset;
+ghost use Prim.Native.Nat.{_+_, _<_, _≤_};
 ghost use lib.ListN.{length};
-ghost use Rattle.tree.specs.Fields.{start, headAt};
+ghost use Rattle.tree.specs.Offset.{behind};
+ghost use Rattle.tree.specs.Room.{recordsIn};
+ghost use Rattle.tree.specs.Fields.{headAt};
+ghost use Rattle.fields.specs.Place.{asPlace};
 ghost use Rattle.rules.specs.Made.{madeHead};
-ghost use Rattle.readings.specs.Node.{SomeNode};
-ghost use Rattle.output.specs.Bytes.{Moved, Shifted, Patched, Made, Recorded};
+ghost use Rattle.output.specs.Bytes.{Moved, Patched, Placed, Made};
+ghost use Rattle.output.specs.Records.{MovedRecords, Recorded};
 ghost use Rattle.output.specs.Trees.{CopiedTree};
 
 // Copies n bytes of src from p on to out from q on.
@@ -22,15 +26,21 @@ pub fn copy_bytes(src: &[u8], p: usize, n: usize, out: &mut [u8], q: usize)
 
 // Copies n records of src from record at on to out from record pos on.
 pub fn copy_records(src: &[u8], at: usize, n: usize, out: &mut [u8], pos: usize)
-    requires { ⌜ (start (at + n) ≤ length (now src)) × (start (pos + n) ≤ length (now out)) ⌝ }
-    ensures { λ _. ⌜ Moved (now (src .entry)) (start at) (16 * n) (now (out .entry)) (now (out .exit)) (start pos) ⌝ }
+    requires { ⌜ (at + n ≤ recordsIn (now src)) × (pos + n ≤ recordsIn (now out)) ⌝ }
+    ensures { λ _. ⌜ MovedRecords (now (src .entry)) at n (now (out .entry)) (now (out .exit)) pos ⌝ }
 {
-    copy_bytes(src, 8 + 16 * at, 16 * n, out, 8 + 16 * pos);
+    if n == 0 {
+        return;
+    }
+    let from = fields::start_of(src, at);
+    let to = fields::start_of(out, pos);
+    let length = fields::width_of(src) * n;
+    copy_bytes(src, from, length, out, to);
 }
 
 // Copies the tree at record at, of size records, to out from record pos on. Returns where it ends.
 pub fn copy_tree(src: &[u8], at: usize, size: usize, out: &mut [u8], pos: usize) -> usize
-    requires { ⌜ (start (at + size) ≤ length (now src)) × (start (pos + size) ≤ length (now out)) ⌝ }
+    requires { ⌜ (at + size ≤ recordsIn (now src)) × (pos + size ≤ recordsIn (now out)) ⌝ }
     ensures { λ r. ⌜ CopiedTree (now (src .entry)) at size (now (out .entry)) (now (out .exit)) pos r ⌝ }
 {
     copy_records(src, at, size, out, pos);
@@ -39,57 +49,66 @@ pub fn copy_tree(src: &[u8], at: usize, size: usize, out: &mut [u8], pos: usize)
 
 // Moves n records of out, those behind record pos, down by one.
 pub fn move_down(out: &mut [u8], pos: usize, n: usize)
-    requires { ⌜ start (pos + 1 + n) ≤ length (now out) ⌝ }
-    ensures { λ _. ⌜ Shifted (now (out .entry)) (now (out .exit)) (start pos) (16 * n) ⌝ }
+    requires { ⌜ pos + 1 + n ≤ recordsIn (now out) ⌝ }
+    ensures { λ _. ⌜ MovedRecords (now (out .entry)) (pos + 1) n (now (out .entry)) (now (out .exit)) pos ⌝ }
 {
-    let to = 8 + 16 * pos;
-    let end = to + 16 * n;
+    let to = fields::start_of(out, pos);
+    let width = fields::width_of(out);
+    let end = to + width * n;
     let mut q = to;
     while q < end {
-        out[q] = out[q + 16];
+        out[q] = out[q + width];
         q += 1;
     }
 }
 
 // The record that part starts with has n children and takes z records.
 fn patch(part: &mut [u8], n: usize, z: usize)
-    requires { ⌜ (16 ≤ length (now part)) × (n < 65536) × (z < 65536) ⌝ }
+    requires { ⌜ (behind ≤ length (now part)) × (n < 65536) × (z < 65536) ⌝ }
     ensures { λ _. ⌜ Patched (now (part .entry)) (now (part .exit)) n z ⌝ }
 {
-    le::put16(part, 4, n);
-    le::put16(part, 6, z);
+    le::put16(part, offset::CHILDREN, n);
+    le::put16(part, offset::SUBTREE, z);
 }
 
 // Record pos of out becomes record at of src, but with n children and z records: the part that starts there is lent.
 pub fn keep_at(src: &[u8], at: usize, out: &mut [u8], pos: usize, n: usize, z: usize)
-    requires { ⌜ (start (at + 1) ≤ length (now src)) × (start (pos + 1) ≤ length (now out)) × (n < 65536) × (z < 65536) ⌝ }
+    requires { ⌜ (at + 1 ≤ recordsIn (now src)) × (pos + 1 ≤ recordsIn (now out)) × (n < 65536) × (z < 65536) ⌝ }
     ensures { λ _. ⌜ Recorded (now (out .entry)) (now (out .exit)) pos (headAt (now (src .entry)) at) n z ⌝ }
 {
     copy_records(src, at, 1, out, pos);
-    let p = 8 + 16 * pos;
+    let p = fields::start_of(out, pos);
     patch(&mut out[p..], n, z);
 }
 
-// The record that part starts with is made anew.
-fn make(part: &mut [u8], kind: u8, facts: u8, place: usize, n: usize, z: usize)
-    requires { ⌜ (16 ≤ length (now part)) × (place < 4294967296) × (n < 65536) × (z < 65536) ⌝ }
-    ensures { λ _. ⌜ Made (now (part .entry)) (now (part .exit)) kind facts place n z ⌝ }
+// The record that part starts with stands at this place.
+fn put_place(part: &mut [u8], place: Place)
+    requires { ⌜ behind ≤ length (now part) ⌝ }
+    ensures { λ _. ⌜ Placed (now (part .entry)) (now (part .exit)) (asPlace place) ⌝ }
 {
-    part[0] = kind;
-    part[1] = facts;
-    part[2] = 0;
-    part[3] = 0;
-    le::put16(part, 4, n);
-    le::put16(part, 6, z);
-    le::put32(part, 8, 0);
-    le::put32(part, 12, place);
+    le::put32(part, offset::PLACE, place.start as usize);
+}
+
+// The record that part starts with is made anew.
+fn make(part: &mut [u8], kind: u8, facts: u8, place: Place, n: usize, z: usize)
+    requires { ⌜ (behind ≤ length (now part)) × (n < 65536) × (z < 65536) ⌝ }
+    ensures { λ _. ⌜ Made (now (part .entry)) (now (part .exit)) kind facts (asPlace place) n z ⌝ }
+{
+    part[offset::KIND] = kind;
+    part[offset::FACTS] = facts;
+    part[offset::SUB] = 0;
+    part[offset::RESERVED] = 0;
+    le::put16(part, offset::CHILDREN, n);
+    le::put16(part, offset::SUBTREE, z);
+    le::put32(part, offset::TEXT, 0);
+    put_place(part, place);
 }
 
 // Record pos of out is made: "text 0, symbol and string unknown".
-pub fn make_at(out: &mut [u8], pos: usize, kind: u8, facts: u8, place: usize, n: usize, z: usize)
-    requires { ⌜ (start (pos + 1) ≤ length (now out)) × (place < 4294967296) × (n < 65536) × (z < 65536) ⌝ }
-    ensures { λ _. ⌜ Recorded (now (out .entry)) (now (out .exit)) pos (madeHead kind facts place) n z ⌝ }
+pub fn make_at(out: &mut [u8], pos: usize, kind: u8, facts: u8, place: Place, n: usize, z: usize)
+    requires { ⌜ (pos + 1 ≤ recordsIn (now out)) × (n < 65536) × (z < 65536) ⌝ }
+    ensures { λ _. ⌜ Recorded (now (out .entry)) (now (out .exit)) pos (madeHead kind facts (asPlace place)) n z ⌝ }
 {
-    let p = 8 + 16 * pos;
+    let p = fields::start_of(out, pos);
     make(&mut out[p..], kind, facts, place, n, z);
 }

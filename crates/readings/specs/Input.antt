@@ -4,10 +4,9 @@ use mathlib.Core.Bool.{true}
 use mathlib.Core.List.{List}
 use Prim.Native.Nat.{ℕ, _+_, _<_, _≤_}
 use native.Mathlib.Omega.{arith}
-use lib.ListN.{length}
 use Rattle.tree.specs.Tree.{Forest, Tree, one, levels}
 use Rattle.tree.specs.Children.{formed}
-use Rattle.tree.specs.Fields.{start}
+use Rattle.tree.specs.Room.{recordsIn}
 use Rattle.tree.specs.Walk.{Holds}
 use Rattle.readings.specs.Node.{Node}
 
@@ -16,7 +15,7 @@ pub record Input (s : List ℕ) (at size depth : ℕ) (f : Forest) : Type 0 wher
   pub holds : Holds s at size f
   pub ok : formed f ≡ true
   pub low : levels f ≤ depth
-  pub inside : start (at + size) ≤ length s
+  pub inside : at + size ≤ recordsIn s
   pub small : size < 65536
 
 pub input-node : {s : List ℕ} {at size depth : ℕ} {t : Tree} → Input s at size depth (one t) → Node s at t

@@ -3,9 +3,8 @@ use mathlib.Core.Path.{_≡_}
 use mathlib.Core.Bool.{Bool}
 use mathlib.Core.List.{List}
 use Prim.Native.Nat.{ℕ, _+_, _≤_}
-use lib.ListN.{length}
 use Rattle.tree.specs.Tree.{Tree, one, size}
-use Rattle.tree.specs.Fields.{start}
+use Rattle.tree.specs.Room.{recordsIn}
 use Rattle.tree.specs.Stands.{Stands}
 use Rattle.rules.specs.Settings.{Settings}
 
@@ -15,7 +14,7 @@ settingsWith byte = record { byte = byte }
 
 pub record Node (s : List ℕ) (i : ℕ) (t : Tree) : Type 0 where
   pub stands : Stands s i (one t)
-  pub inside : start (i + size t) ≤ length s
+  pub inside : i + size t ≤ recordsIn s
 
 -- Some tree stands at record i.
 pub record SomeNode (s : List ℕ) (i : ℕ) : Type 0 where

@@ -4,11 +4,12 @@ use mathlib.Core.Bool.{true, _&&_}
 use mathlib.Core.List.{List}
 use Prim.Native.Nat.{ℕ, zero, suc, _+_, _-_, _≤_}
 use native.Mathlib.Omega.{arith}
-use lib.ListN.{length, take, drop}
+use lib.ListN.{take, drop}
 use Rattle.tree.specs.Tree.{Head, Forest, nil, node, Tree, trees, one, count, records}
 use Rattle.tree.specs.Below.{and-both, and-left, and-right}
 use Rattle.tree.specs.Children.{nodeOk, formed}
-use Rattle.tree.specs.Fields.{start, subtreeAt}
+use Rattle.tree.specs.Room.{recordsIn}
+use Rattle.tree.specs.Fields.{subtreeAt}
 use Rattle.tree.specs.Walk.{first-of}
 use Rattle.readings.specs.Input.{Input}
 use Rattle.readings.specs.First.{firstSize, GivenFirst}
@@ -129,7 +130,7 @@ split i (suc (suc n)) l c = absurd (omega arith)
 pub given-first : {s : List ℕ} {at size depth : ℕ} {t : Tree} → Input s at size depth (one t) → (has : ℕ) → has ≤ count (t .kids) → GivenFirst s at has
 given-first {s} {at} {size} {depth} {t} i has c = record { inside = λ l. go (t .kids) refl (omega arith) }
   where
-    go : (f : Forest) → t .kids ≡ f → 1 ≤ count f → start (at + 2) ≤ length s
+    go : (f : Forest) → t .kids ≡ f → 1 ≤ count f → at + 2 ≤ recordsIn s
     go nil e l = absurd (omega arith)
     go (node h cs rest) e l =
         let k : Input s (at + 1) (size - 1) (depth - 1) (node h cs rest) = rw e at (kids-input i) in

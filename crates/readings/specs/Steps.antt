@@ -5,11 +5,12 @@ use mathlib.Core.List.{List}
 use Prim.Native.Nat.{ℕ, suc, _+_, _/_, _%_, _≤_}
 use native.Mathlib.Omega.{arith}
 use lib.Dec.{eqb}
-use lib.ListN.{length, take}
+use lib.ListN.{take}
 use borrow.Author.Tests.{eq-eqb, ne-eqb}
 use Rattle.tree.specs.Tree.{Head, Forest, nil, node, Tree, trees, count, records}
 use Rattle.tree.specs.Record.{bitSet}
-use Rattle.tree.specs.Fields.{start, headAt, childrenAt}
+use Rattle.tree.specs.Room.{recordsIn}
+use Rattle.tree.specs.Fields.{headAt, childrenAt}
 use Rattle.tree.specs.Stands.{Stands}
 use Rattle.rules.specs.Lists.{any}
 use Rattle.rules.specs.Settings.{annotations}
@@ -62,10 +63,10 @@ module _ {s : List ℕ} {i : ℕ} {p : Tree → Bool} {a : Bool} (first : Tells 
 
 -- The first child, by the child count k.
 module _ {s : List ℕ} {i k : ℕ} (e : k ≡ childrenAt s i) where
-  pub child-inside : SomeNode s i → (k ≡ 0 → ⊥) → start (i + 1 + 1) ≤ length s
+  pub child-inside : SomeNode s i → (k ≡ 0 → ⊥) → i + 1 + 1 ≤ recordsIn s
   child-inside n z = go (n .tree .kids) (n .node .stands .1) (n .node .inside)
     where
-      go : (f : Forest) → childrenAt s i ≡ count f → start (i + suc (records f)) ≤ length s → start (i + 1 + 1) ≤ length s
+      go : (f : Forest) → childrenAt s i ≡ count f → i + suc (records f) ≤ recordsIn s → i + 1 + 1 ≤ recordsIn s
       go nil c l = absurd (z (e ∙ c))
       go (node h cs rest) c l = omega arith
 

@@ -4,19 +4,19 @@ use mathlib.Core.Bool.{Bool, true, false, _||_}
 use mathlib.Core.List.{List}
 use Prim.Native.Nat.{ℕ, suc, _+_, _-_, _<_, _≤_}
 use native.Mathlib.Omega.{arith}
-use lib.ListN.{length}
 use Rattle.tree.specs.Tree.{Head, Forest, nil, node, Tree, trees, forest, trees-forest, records, size, forest-trees}
-use Rattle.tree.specs.Fields.{start, subtreeAt}
+use Rattle.tree.specs.Room.{recordsIn}
+use Rattle.tree.specs.Fields.{subtreeAt}
 use Rattle.tree.specs.Walk.{Holds, Held, first-of, held-within, held-after}
 use Rattle.rules.specs.Lists.{any}
 use Rattle.readings.specs.Node.{Node, SomeNode, Tells, Finds}
 
 -- What a tree that stands at record i says of the bytes, and of the children from record i + 1 on.
 module _ {s : List ℕ} {i : ℕ} where
-  pub some-inside : SomeNode s i → start (i + 1) ≤ length s
+  pub some-inside : SomeNode s i → i + 1 ≤ recordsIn s
   some-inside n = omega (arith, n .node .inside)
 
-  pub some-end : SomeNode s i → start (i + subtreeAt s i) ≤ length s
+  pub some-end : SomeNode s i → i + subtreeAt s i ≤ recordsIn s
   some-end n = omega (arith, n .node .stands .2, n .node .inside)
 
   pub found-some : {r : ℕ} (f : Tree → Tree) → SomeNode s i → Finds s i f r → SomeNode s r
@@ -34,7 +34,7 @@ module _ {s : List ℕ} {i : ℕ} where
 
 -- The first tree of a list that is not empty.
 module _ {s : List ℕ} {p size : ℕ} where
-  pub first-node : (h : Head) (cs rest : Forest) → Holds s p size (node h cs rest) → start (p + size) ≤ length s → Node s p (record { head = h; kids = cs })
+  pub first-node : (h : Head) (cs rest : Forest) → Holds s p size (node h cs rest) → p + size ≤ recordsIn s → Node s p (record { head = h; kids = cs })
   first-node h cs rest d l = record {
     stands = (d .stands .0, d .stands .1, d .stands .2, d .stands .3, tt);
     inside = omega (arith, d .sized);

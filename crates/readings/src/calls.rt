@@ -1,8 +1,7 @@
 // The argument of a typeof, the callee of a call, whether a call or a new is pure, and whether an impure call stays.
 use fields::kind;
 ghost use Prim.Native.Nat.{_+_, _≤_};
-ghost use lib.ListN.{length};
-ghost use Rattle.tree.specs.Fields.{start};
+ghost use Rattle.tree.specs.Room.{recordsIn};
 ghost use Rattle.rules.specs.Handler.{isKind, isFunction, firstIs};
 ghost use Rattle.rules.specs.Facts.{ofIdentifier, pureNew, pureCall, hasSideEffectsOrPreservedIife};
 ghost use Rattle.readings.specs.Node.{SomeNode, Tells, settingsWith};
@@ -26,7 +25,7 @@ pub fn of_identifier(src: &[u8], i: usize) -> bool
 }
 
 pub fn pure_new(src: &[u8], i: usize, settings: u8) -> bool
-    requires { ⌜ start (i + 1) ≤ length (now src) ⌝ }
+    requires { ⌜ i + 1 ≤ recordsIn (now src) ⌝ }
     ensures { λ r. ⌜ Tells (now (src .entry)) i (pureNew (settingsWith settings)) r ⌝ }
 {
     let facts = fields::facts_at(src, i);

@@ -1,7 +1,6 @@
 // A class by its parts: what makes it an effect, what keeps it, and what its elements say.
 ghost use Prim.Native.Nat.{_+_, _≤_};
-ghost use lib.ListN.{length};
-ghost use Rattle.tree.specs.Fields.{start};
+ghost use Rattle.tree.specs.Room.{recordsIn};
 ghost use Rattle.rules.specs.Lists.{any};
 ghost use Rattle.rules.specs.Class.{decoratedClass, hasStaticValue, nonemptyStaticBlock, decoratedElement, indexSignature, flaggedStaticValue, elements, arrowHeritage, keptClass};
 ghost use Rattle.rules.specs.Effects.{classIsEffect};
@@ -10,14 +9,14 @@ ghost use Rattle.readings.specs.Walk.{ListAt};
 ghost use Rattle.readings.specs.Class.{hasHeritage, keepsClass};
 
 pub fn decorated_class_at(src: &[u8], i: usize) -> bool
-    requires { ⌜ start (i + 1) ≤ length (now src) ⌝ }
+    requires { ⌜ i + 1 ≤ recordsIn (now src) ⌝ }
     ensures { λ r. ⌜ Tells (now (src .entry)) i decoratedClass r ⌝ }
 {
     fields::sub_at(src, i) % 2 == 1
 }
 
 pub fn has_static_value_at(src: &[u8], i: usize) -> bool
-    requires { ⌜ start (i + 1) ≤ length (now src) ⌝ }
+    requires { ⌜ i + 1 ≤ recordsIn (now src) ⌝ }
     ensures { λ r. ⌜ Tells (now (src .entry)) i hasStaticValue r ⌝ }
 {
     let sub = fields::sub_at(src, i);
@@ -28,7 +27,7 @@ pub fn has_static_value_at(src: &[u8], i: usize) -> bool
 }
 
 pub fn nonempty_static_block_at(src: &[u8], i: usize) -> bool
-    requires { ⌜ start (i + 1) ≤ length (now src) ⌝ }
+    requires { ⌜ i + 1 ≤ recordsIn (now src) ⌝ }
     ensures { λ r. ⌜ Tells (now (src .entry)) i nonemptyStaticBlock r ⌝ }
 {
     let sub = fields::sub_at(src, i);
@@ -39,14 +38,14 @@ pub fn nonempty_static_block_at(src: &[u8], i: usize) -> bool
 }
 
 fn decorated_element_at(src: &[u8], i: usize) -> bool
-    requires { ⌜ start (i + 1) ≤ length (now src) ⌝ }
+    requires { ⌜ i + 1 ≤ recordsIn (now src) ⌝ }
     ensures { λ r. ⌜ Tells (now (src .entry)) i decoratedElement r ⌝ }
 {
     fields::sub_at(src, i) / 32 % 2 == 1
 }
 
 fn index_signature_at(src: &[u8], i: usize) -> bool
-    requires { ⌜ start (i + 1) ≤ length (now src) ⌝ }
+    requires { ⌜ i + 1 ≤ recordsIn (now src) ⌝ }
     ensures { λ r. ⌜ Tells (now (src .entry)) i indexSignature r ⌝ }
 {
     fields::sub_at(src, i) % 8 == 5

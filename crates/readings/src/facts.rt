@@ -1,35 +1,34 @@
 // What a node's own record says of it.
 use fields::kind;
 ghost use Prim.Native.Nat.{_+_, _≤_};
-ghost use lib.ListN.{length};
-ghost use Rattle.tree.specs.Fields.{start};
+ghost use Rattle.tree.specs.Room.{recordsIn};
 ghost use Rattle.rules.specs.Handler.{isAddition};
 ghost use Rattle.rules.specs.Facts.{flagged, possibleSymbol, stringFact};
 ghost use Rattle.readings.specs.Node.{Tells};
 
 pub fn flagged_at(src: &[u8], i: usize) -> bool
-    requires { ⌜ start (i + 1) ≤ length (now src) ⌝ }
+    requires { ⌜ i + 1 ≤ recordsIn (now src) ⌝ }
     ensures { λ r. ⌜ Tells (now (src .entry)) i flagged r ⌝ }
 {
     fields::facts_at(src, i) % 2 == 1
 }
 
 pub fn possible_symbol_at(src: &[u8], i: usize) -> bool
-    requires { ⌜ start (i + 1) ≤ length (now src) ⌝ }
+    requires { ⌜ i + 1 ≤ recordsIn (now src) ⌝ }
     ensures { λ r. ⌜ Tells (now (src .entry)) i possibleSymbol r ⌝ }
 {
     fields::facts_at(src, i) / 2 % 4 != 1
 }
 
 pub fn string_fact_at(src: &[u8], i: usize) -> bool
-    requires { ⌜ start (i + 1) ≤ length (now src) ⌝ }
+    requires { ⌜ i + 1 ≤ recordsIn (now src) ⌝ }
     ensures { λ r. ⌜ Tells (now (src .entry)) i stringFact r ⌝ }
 {
     fields::facts_at(src, i) / 8 % 4 == 2
 }
 
 pub fn is_addition(src: &[u8], at: usize) -> bool
-    requires { ⌜ start (at + 1) ≤ length (now src) ⌝ }
+    requires { ⌜ at + 1 ≤ recordsIn (now src) ⌝ }
     ensures { λ r. ⌜ Tells (now (src .entry)) at isAddition r ⌝ }
 {
     if fields::kind_at(src, at) == kind::BINARY {

@@ -8,7 +8,7 @@ use reducer::Reduced;
 fn main() {
     let mut input = [0u8; 32009];
     let n = io::read_full(STDIN_FILENO, &mut input);
-    let mut left = [0u8; 63992];
+    let mut left = [0u8; reducer::MOST_OUTPUT];
     let reduced = reducer::reduce(&input[..n], &mut left);
     match reduced {
         Reduced::Refused(number) => print_refusal(number),

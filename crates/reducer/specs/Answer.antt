@@ -8,6 +8,7 @@ use lib.Dec.{ltb}
 use lib.ListN.{length, getD, drop, length-append}
 use Rattle.stated.specs.Stated.{Stated, refused, answered, injective-by}
 use Rattle.tree.specs.Tree.{Tree, forest, records, levels, depth}
+use Rattle.tree.specs.Layout.{width, span, start}
 use Rattle.tree.specs.Fields.{settingsOf, countOf}
 use Rattle.tree.specs.File.{fileBytes}
 use Rattle.tree.specs.Refusal.{reduceLimits, listEffectsLimits, refusal, treeOf}
@@ -24,13 +25,17 @@ stated (Refused n) = refused n
 stated Removable = answered (0 ∷ 0 ∷ [])
 stated (Kept n) = answered (1 ∷ n ∷ [])
 
--- The refusals of the file, then "9 output under 8 + 16 × (2 × N − 1) bytes"
+-- "9 output under 8 + 16 × (2 × N − 1) bytes": the length of a file of 2 × N − 1 records
+abbrev pub leastOutput : ℕ → ℕ
+leastOutput n = start (2 * n - 1)
+
+-- The refusals of the file, then 9.
 abbrev pub numberBy : ℕ → Bool → ℕ
 numberBy zero short = cond short 9 0
 numberBy (suc k) short = suc k
 
 unfoldable pub number : List ℕ → ℕ → ℕ
-number s room = numberBy (refusal reduceLimits s) (ltb room (8 + 16 * (2 * countOf s - 1)))
+number s room = numberBy (refusal reduceLimits s) (ltb room (leastOutput (countOf s)))
 
 -- What is left of the file's tree under the file's settings.
 unfoldable pub left : List ℕ → List Tree
@@ -116,3 +121,11 @@ kept-within {s} {old} {new} {r} {n} a kept = rw (a .bytes) (go (number s (length
         let values : 1 ∷ n ∷ [] ≡ [] = ap (λ (x : Stated). x .values) e in
         let z : _≡_ {A = ℕ} 1 0 = ap (λ l. getD l 0 0) values in
         omega arith
+
+-- The output that any answer fits: a file of 3,999 records, which 2,000 may become.
+abbrev pub mostOutput : ℕ
+mostOutput = 63992
+
+pub most-enough : (n : ℕ) → n ≤ 2000 → leastOutput n ≤ mostOutput
+unfolding start span width
+most-enough n l = omega arith

@@ -4,9 +4,8 @@ use mathlib.Core.Bool.{Bool, true, false, cond}
 use mathlib.Core.List.{List, [], _∷_, _++_}
 use Prim.Native.Nat.{ℕ, _+_, _*_, _<_, _≤_}
 use native.Mathlib.Omega.{arith}
-use lib.ListN.{length}
 use Rattle.tree.specs.Tree.{Tree, one}
-use Rattle.tree.specs.Fields.{start}
+use Rattle.tree.specs.Room.{recordsIn}
 use Rattle.rules.specs.Settings.{Settings}
 use Rattle.rules.specs.Lists.{keepIf}
 use Rattle.rules.specs.Facts.{flagged}
@@ -16,7 +15,7 @@ use Rattle.rules.specs.Theorems.{at-most-twice}
 use Rattle.readings.specs.Node.{SomeNode, Tells}
 use Rattle.readings.specs.Input.{Input, input-node}
 use Rattle.readings.specs.Split.{some-size}
-use Rattle.output.specs.Bytes.{Agree, agree-less, agree-trans}
+use Rattle.output.specs.Records.{Before, before-less, before-trans}
 use Rattle.output.specs.Trees.{Wrote, wrote-none, wrote-as}
 use Rattle.rewrite.specs.Waiting.{Waits, Held, Wrapped, waits-after, waits-agree}
 use Rattle.reducer.specs.declared.walk.Part.{Part}
@@ -26,20 +25,20 @@ use Rattle.reducer.specs.Settled.{Stepped, GivenSettle, Settles}
 use Rattle.reducer.specs.Given.{GivenTree, ReducedTree, GivenChild, ReducedChild}
 
 -- What was written over bytes that agree.
-stepped-over : {old mid new : List ℕ} {slot slot′ next′ : ℕ} {q : Progress} → Agree old mid (start slot) → Stepped mid new slot slot′ next′ q → Stepped old new slot slot′ next′ q
-stepped-over a d = record { done = record { spans = d .done .spans; frame = agree-trans a (d .done .frame) (omega arith) }; waiting = d .waiting }
+stepped-over : {old mid new : List ℕ} {slot slot′ next′ : ℕ} {q : Progress} → Before old mid slot → Stepped mid new slot slot′ next′ q → Stepped old new slot slot′ next′ q
+stepped-over a d = record { done = record { spans = d .done .spans; frame = before-trans a (d .done .frame) (omega arith) }; waiting = d .waiting }
 
 stepped-as : {old new : List ℕ} {slot slot′ next′ : ℕ} {p q : Progress} → p ≡ q → Stepped old new slot slot′ next′ p → Stepped old new slot slot′ next′ q
 stepped-as {old} {new} {slot} {slot′} {next′} e d = subst (λ (x : Progress). Stepped old new slot slot′ next′ x) e d
 
 module _ {s : List ℕ} {at size depth : ℕ} {old : List ℕ} {slot next : ℕ} where
-  pub child-inside : {room : ℕ} → GivenChild s at size depth old slot next room → start (at + 1) ≤ length s
+  pub child-inside : {room : ℕ} → GivenChild s at size depth old slot next room → at + 1 ≤ recordsIn s
   child-inside g = omega (arith, g .input .inside, some-size (g .input))
 
   pub child-node : {room : ℕ} → GivenChild s at size depth old slot next room → SomeNode s at
   child-node g = record { tree = g .tree; node = input-node (g .input) }
 
-  pub child-fits : {room : ℕ} → GivenChild s at size depth old slot next room → start (next + 1 + size) ≤ room
+  pub child-fits : {room : ℕ} → GivenChild s at size depth old slot next room → next + 1 + size ≤ room
   child-fits g = omega (arith, g .fits, some-size (g .input))
 
   pub child-small : {room : ℕ} → GivenChild s at size depth old slot next room → size < 65535
@@ -48,7 +47,7 @@ module _ {s : List ℕ} {at size depth : ℕ} {old : List ℕ} {slot next : ℕ}
   pub child-tree : {room : ℕ} → GivenChild s at size depth old slot next room → GivenTree s at size depth next room
   child-tree g = record { tree = g .tree; input = g .input; fits = omega (arith, g .fits); small = omega (arith, g .small, waits-after (g .waits)) }
 
-  given-settle : {mid : List ℕ} {end room : ℕ} → GivenChild s at size depth old slot next room → (left : List Tree) → Wrote old mid next end left → end ≤ next + 2 * size → length mid ≡ room → GivenSettle s at mid slot next end
+  given-settle : {mid : List ℕ} {end room : ℕ} → GivenChild s at size depth old slot next room → (left : List Tree) → Wrote old mid next end left → end ≤ next + 2 * size → room ≡ recordsIn old → GivenSettle s at mid slot next end
   given-settle g left a l n = record {
     node-inside = child-inside g;
     list = record {
@@ -56,7 +55,7 @@ module _ {s : List ℕ} {at size depth : ℕ} {old : List ℕ} {slot next : ℕ}
       waits = waits-agree (g .waits) (a .frame);
       left = left;
       spans = a .spans;
-      inside = omega (arith, g .fits);
+      inside = omega (arith, n, a .frame .room, g .fits);
       small = omega (arith, g .small, some-size (g .input));
     };
   }
@@ -69,7 +68,7 @@ module _ {s : List ℕ} {at size depth : ℕ} {old : List ℕ} {slot next : ℕ}
       go t i w x =
           let q : waits part t ≡ true = sym (p .by t (input-node i)) ∙ e in
           stepped-as (ap (λ (c : Bool). cond c (record { done = []; waiting = w ++ (t ∷ []) }) (settled part t w (leftOf part st t))) (sym q))
-          (record { done = wrote-none (agree-less (start slot) (omega (arith, waits-after x)) (h .frame)); waiting = h .by t (i .holds .stands) (omega (arith, i .holds .sized)) w x })
+          (record { done = wrote-none (before-less slot (omega (arith, waits-after x)) (h .frame)); waiting = h .by t (i .holds .stands) (omega (arith, i .holds .sized)) w x })
 
   -- It does not, and what is left of it was written behind what waits.
   module _ {st : Settings} (part : Part) {b : Bool} (p : Tells s at (waits part) b) (e : b ≡ false) {mid : List ℕ} {end : ℕ} where
@@ -82,7 +81,7 @@ module _ {s : List ℕ} {at size depth : ℕ} {old : List ℕ} {slot next : ℕ}
             let q : waits part t ≡ false = sym (p .by t (input-node i)) ∙ e in
             let a = wrote t i in
             stepped-as (ap (λ (c : Bool). cond c (record { done = []; waiting = w ++ (t ∷ []) }) (settled part t w (leftOf part st t))) (sym q))
-            (stepped-over (agree-less (start slot) (omega (arith, waits-after x)) (a .frame))
+            (stepped-over (before-less slot (omega (arith, waits-after x)) (a .frame))
             (f .by t (i .holds .stands .0) w (waits-agree x (a .frame)) (leftOf part st t) (a .spans)))
 
 -- A spread among arguments was wrapped.
@@ -90,7 +89,7 @@ module _ {s : List ℕ} {at size depth : ℕ} {old mid : List ℕ} {next end : �
   wrapped-wrote : (t : Tree) → Input s at size depth (one t) → Wrote old mid next end (keepIf (flagged t) (makeArray (placeOf t) (t ∷ [])))
   wrapped-wrote t i = m .by t (input-node i) (omega (arith, i .holds .sized))
 
-  pub wrapped-given : {slot room : ℕ} → GivenChild s at size depth old slot next room → length mid ≡ room → GivenSettle s at mid slot next end
+  pub wrapped-given : {slot room : ℕ} → GivenChild s at size depth old slot next room → room ≡ recordsIn old → GivenSettle s at mid slot next end
   wrapped-given g n = given-settle g (keepIf (flagged (g .tree)) (makeArray (placeOf (g .tree)) (g .tree ∷ []))) (wrapped-wrote (g .tree) (g .input)) (omega (arith, m .few, some-size (g .input))) n
 
   pub child-wrapped : {st : Settings} (part : Part) {slot room : ℕ} → GivenChild s at size depth old slot next room → {b : Bool} → Tells s at (waits part) b → b ≡ false → {c : Bool} → Tells s at (wraps part) c → c ≡ true
@@ -103,7 +102,7 @@ module _ {s : List ℕ} {at size depth : ℕ} {st : Settings} {old mid : List �
   reduced-few : (t : Tree) → Input s at size depth (one t) → end ≤ next + 2 * size
   reduced-few t i = omega (arith, m .by t i .spans .ends, at-most-twice st t, i .holds .sized)
 
-  pub reduced-given : {slot room : ℕ} → GivenChild s at size depth old slot next room → length mid ≡ room → GivenSettle s at mid slot next end
+  pub reduced-given : {slot room : ℕ} → GivenChild s at size depth old slot next room → room ≡ recordsIn old → GivenSettle s at mid slot next end
   reduced-given g n = given-settle g (reduce st (g .tree)) (m .by (g .tree) (g .input)) (reduced-few (g .tree) (g .input)) n
 
   pub child-reduced : (part : Part) {slot room : ℕ} → GivenChild s at size depth old slot next room → {b : Bool} → Tells s at (waits part) b → b ≡ false → {c : Bool} → Tells s at (wraps part) c → c ≡ false

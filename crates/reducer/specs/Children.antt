@@ -5,11 +5,12 @@ use Prim.Native.Nat.{ℕ, _+_, _*_, _-_, _<_, _≤_}
 use native.Mathlib.Omega.{arith}
 use lib.ListN.{length}
 use Rattle.tree.specs.Tree.{Forest, nil, node, Tree, trees}
-use Rattle.tree.specs.Fields.{start, subtreeAt}
+use Rattle.tree.specs.Room.{recordsIn}
+use Rattle.tree.specs.Fields.{subtreeAt}
 use Rattle.rules.specs.Settings.{Settings}
 use Rattle.readings.specs.Input.{Input}
 use Rattle.readings.specs.Split.{first-some, first-within, first-input, rest-input}
-use Rattle.output.specs.Bytes.{agree-all}
+use Rattle.output.specs.Records.{before-all}
 use Rattle.output.specs.Trees.{wrote-none, wrote-both}
 use Rattle.rewrite.specs.Waiting.{Waits, waits-none}
 use Rattle.reducer.specs.declared.walk.Part.{Part}
@@ -24,7 +25,7 @@ pub record Walking (s : List ℕ) (at size depth : ℕ) (st : Settings) (part : 
   pub same : length cur ≡ length old
   pub ends : e ≡ at + size
   pub small : 2 * size < 65536
-  pub fits : start (pos + 2 * size) ≤ length old
+  pub fits : pos + 2 * size ≤ recordsIn cur
   pub behind : pos ≤ slot
   pub few : next ≤ pos + 2 * (p - at)
   pub forest : Forest
@@ -34,7 +35,7 @@ pub record Walking (s : List ℕ) (at size depth : ℕ) (st : Settings) (part : 
   pub whole : (new : List ℕ) (slot′ next′ : ℕ) → ReducedChildren s p (e - p) depth st part cur new slot next slot′ next′ → ReducedChildren s at size depth st part old new pos pos slot′ next′
 
 pub walk-start : {s : List ℕ} {at size depth : ℕ} {st : Settings} {part : Part} {old : List ℕ} {pos : ℕ}
-    → GivenChildren s at size depth pos (length old) → Walking s at size depth st part old pos at (at + size) old pos pos
+    → GivenChildren s at size depth pos (recordsIn old) → Walking s at size depth st part old pos at (at + size) old pos pos
 walk-start {s} {at} {size} {depth} {st} {part} {old} {pos} g =
     let e : at + size - at ≡ size = omega arith in
     record {
@@ -59,11 +60,11 @@ module _ {s : List ℕ} {at size depth : ℕ} {st : Settings} {part : Part} {old
   walk-done l = w .whole cur slot next (record { by = go; few = omega arith })
     where
       go : (f : Forest) → Input s p (e - p) depth f → (v : List Tree) → Waits cur slot next v → Stepped cur cur slot slot next (walked part st v (trees f))
-      go nil i v x = record { done = wrote-none (agree-all cur (start slot)); waiting = x }
+      go nil i v x = record { done = wrote-none (before-all cur slot); waiting = x }
       go (node h cs rest) i v x = absurd (omega (arith, i .holds .sized, w .inside))
 
   module _ (l : p < e) where
-    pub walk-subtree : start (p + 1) ≤ length s
+    pub walk-subtree : p + 1 ≤ recordsIn s
     walk-subtree = omega (arith, w .input .inside, w .inside)
 
     pub child-some : 1 ≤ subtreeAt s p
@@ -80,17 +81,17 @@ module _ {s : List ℕ} {at size depth : ℕ} {st : Settings} {part : Part} {old
         go nil i = absurd (omega (arith, i .holds .sized))
         go (node h cs rest) i = omega (arith, first-within i)
 
-    pub child-given : (z : ℕ) → z ≡ subtreeAt s p → GivenChild s p z depth cur slot next (length cur)
+    pub child-given : (z : ℕ) → z ≡ subtreeAt s p → GivenChild s p z depth cur slot next (recordsIn cur)
     child-given z ez = rw ez (go (w .forest) (w .input))
       where
-        go : (f : Forest) → Input s p (e - p) depth f → GivenChild s p (subtreeAt s p) depth cur slot next (length cur)
+        go : (f : Forest) → Input s p (e - p) depth f → GivenChild s p (subtreeAt s p) depth cur slot next (recordsIn cur)
         go nil i = absurd (omega (arith, i .holds .sized))
         go (node h cs rest) i = record {
           tree = record { head = h; kids = cs };
           input = first-input i;
           wait = w .wait;
           waits = w .waits;
-          fits = omega (arith, w .fits, w .few, w .from, w .ends, w .same, child-within);
+          fits = omega (arith, w .fits, w .few, w .from, w .ends, child-within);
           small = omega (arith, w .small, w .few, w .from, w .ends, w .behind, child-within);
         }
 
@@ -127,7 +128,7 @@ module _ {s : List ℕ} {at size depth : ℕ} {st : Settings} {part : Part} {old
                 same = n ∙ w .same;
                 ends = w .ends;
                 small = w .small;
-                fits = w .fits;
+                fits = omega (arith, w .fits, d .done .frame .room);
                 behind = omega (arith, w .behind, d .done .spans .ends);
                 few = omega (arith, w .few, a′ .few, w .from);
                 forest = rest;

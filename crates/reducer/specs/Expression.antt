@@ -3,9 +3,10 @@ use mathlib.Core.Path.{_≡_, refl, sym, ap, subst, _∙_}
 use mathlib.Core.List.{List, [], _++_, map}
 use Prim.Native.Nat.{ℕ, _+_, _*_, _-_, _≤_}
 use native.Mathlib.Omega.{arith}
-use lib.ListN.{length, drop}
+use lib.ListN.{drop}
 use Rattle.tree.specs.Tree.{Place, Head, Tree, trees, one}
-use Rattle.tree.specs.Fields.{start, subtreeAt}
+use Rattle.tree.specs.Room.{recordsIn}
+use Rattle.tree.specs.Fields.{subtreeAt}
 use Rattle.rules.specs.Lists.{concatMap}
 use Rattle.rules.specs.Settings.{Settings}
 use Rattle.rules.specs.Made.{placeOf, makeTemplate, makeObject}
@@ -20,7 +21,7 @@ use Rattle.handlers.specs.declared.outcome.Outcome.the-variants.{Removable, Unc
 use Rattle.handlers.specs.declared.outcome.Rewrite.{Rewrite}
 use Rattle.handlers.specs.declared.outcome.Rewrite.the-variants.{Sequence, Array, Comparison}
 use Rattle.handlers.specs.declared.outcome.Rewrite.the-variants as rewrites
-use Rattle.output.specs.Bytes.{agree-all}
+use Rattle.output.specs.Records.{before-all}
 use Rattle.output.specs.Trees.{Wrote, CopiedTree, wrote-none, wrote-over, wrote-as}
 use Rattle.output.specs.Given as whole
 use Rattle.addition.specs.Fold.{RemovesAddition}
@@ -47,7 +48,7 @@ settled-all {old} {new} {pos} {slot} {next} {q} ts e d =
 
 -- The room for a copy, and for what is left of the children behind a free record or with none.
 module _ {s : List ℕ} {at size depth pos room : ℕ} (g : GivenTree s at size depth pos room) where
-  pub given-copy : start (pos + size) ≤ room
+  pub given-copy : pos + size ≤ room
   given-copy = omega (arith, g .fits, some-size (g .input))
 
   pub inner-given : GivenChildren s (at + 1) (size - 1) (depth - 1) (pos + 1) room
@@ -61,12 +62,12 @@ whole-given {depth = depth} g = record { tree = g .tree; depth = depth; input = 
 
 -- A list behind the free record at pos, and what it becomes.
 module _ {s : List ℕ} {at size depth : ℕ} {old mid : List ℕ} {pos next : ℕ} where
-  given-list : {room : ℕ} → GivenTree s at size depth pos room → (ts : List Tree) → Wrote old mid (pos + 1) next ts → next ≤ pos + 1 + 2 * (size - 1) → length mid ≡ room → GivenList s at mid pos next
+  given-list : {room : ℕ} → GivenTree s at size depth pos room → (ts : List Tree) → Wrote old mid (pos + 1) next ts → next ≤ pos + 1 + 2 * (size - 1) → room ≡ recordsIn old → GivenList s at mid pos next
   given-list g ts w l n = record {
     node-inside = omega (arith, g .input .inside, some-size (g .input));
     list = ts;
     spans = w .spans;
-    inside = omega (arith, g .fits, some-size (g .input));
+    inside = omega (arith, n, w .frame .room, g .fits, some-size (g .input));
     small = omega (arith, g .small, some-size (g .input));
   }
 
@@ -78,7 +79,7 @@ module _ {s : List ℕ} {at size depth : ℕ} {st : Settings} where
   outcome-is o h t i = h .by t (input-node i) (first-node i)
 
   pub removable-done : Handles s at st Removable → {old : List ℕ} {pos : ℕ} → ReducedTree s at size depth st old old pos pos
-  removable-done h {old} {pos} = record { by = λ t i. wrote-as (wrote-none (agree-all old (start pos))) (sym (outcome-is Removable h t i .is)) }
+  removable-done h {old} {pos} = record { by = λ t i. wrote-as (wrote-none (before-all old pos)) (sym (outcome-is Removable h t i .is)) }
 
   pub unchanged-done : Handles s at st Unchanged → {old new : List ℕ} {pos r : ℕ} → CopiedTree s at size old new pos r → ReducedTree s at size depth st old new pos r
   unchanged-done h c = record { by = λ t i. wrote-as (c .by t (i .holds .stands) (omega (arith, i .holds .sized))) (sym (outcome-is Unchanged h t i .is)) }
@@ -99,7 +100,7 @@ module _ {s : List ℕ} {at size depth : ℕ} {st : Settings} where
   -- Children of which none wait, behind the free record at pos.
   module _ {old mid : List ℕ} {pos slot next : ℕ} where
     module _ (a : ReducedChildren s (at + 1) (size - 1) (depth - 1) st InOrder old mid (pos + 1) (pos + 1) slot next) where
-      pub in-order-list : {room : ℕ} → GivenTree s at size depth pos room → length mid ≡ room → GivenList s at mid pos next
+      pub in-order-list : {room : ℕ} → GivenTree s at size depth pos room → room ≡ recordsIn old → GivenList s at mid pos next
       in-order-list g n = given-list g (concatMap (reduce st) (trees (g .tree .kids))) (in-order-wrote a (g .tree) (g .input)) (omega (arith, a .few)) n
 
       becomes-done : (o : Rewrite) (f : Tree → List Tree → List Tree) → ((t : Tree) → f t (concatMap (reduce st) (trees (t .kids))) ≡ rewritten o st t) → Handles s at st (Rewritten o)
@@ -117,7 +118,7 @@ module _ {s : List ℕ} {at size depth : ℕ} {st : Settings} where
 
     -- Where some may wait.
     module _ {part : Part} (a : ReducedChildren s (at + 1) (size - 1) (depth - 1) st part old mid (pos + 1) (pos + 1) slot next) where
-      pub walked-given : {room : ℕ} → GivenTree s at size depth pos room → length mid ≡ room → GivenWalked s at mid pos slot next
+      pub walked-given : {room : ℕ} → GivenTree s at size depth pos room → room ≡ recordsIn old → GivenWalked s at mid pos slot next
       walked-given g n =
           let d = walked-stepped a (g .tree) (g .input) in
           record {
@@ -125,7 +126,7 @@ module _ {s : List ℕ} {at size depth : ℕ} {st : Settings} where
             progress = walked part st [] (trees (g .tree .kids));
             settled = d .done .spans;
             waits = d .waiting;
-            inside = omega (arith, g .fits, some-size (g .input), a .few);
+            inside = omega (arith, n, d .done .frame .room, g .fits, some-size (g .input), a .few);
             small = omega (arith, g .small, some-size (g .input), a .few);
           }
 
@@ -176,7 +177,7 @@ module _ {s : List ℕ} {at size depth : ℕ} {st : Settings} where
           (ap (walked Argument st []) (c .rest-is) ∙ arguments-walked st (drop 1 (trees (t .kids)))) d
 
       module _ {old mid : List ℕ} {pos slot next : ℕ} (a : ReducedChildren s (at + 1 + k) (size - 1 - k) (depth - 1) st Argument old mid (pos + 1) (pos + 1) slot next) where
-        pub arguments-list : {room : ℕ} → GivenTree s at size depth pos room → length mid ≡ room → GivenList s at mid pos next
+        pub arguments-list : {room : ℕ} → GivenTree s at size depth pos room → room ≡ recordsIn old → GivenList s at mid pos next
         arguments-list g n = given-list g (foldArgumentsIntoNeededExpressions (map (reduced st) (drop 1 (trees (g .tree .kids))))) (arguments-wrote a (g .tree) (g .input)) (omega (arith, a .few)) n
 
         pub arguments-done : {new : List ℕ} {r : ℕ} → Becomes noneOneSeveralOf s at mid new pos next r → ReducedTree s at size depth st old new pos r

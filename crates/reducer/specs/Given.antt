@@ -2,9 +2,8 @@
 use mathlib.Core.List.{List}
 use Prim.Native.Nat.{ℕ, _+_, _*_, _<_, _≤_}
 use native.Mathlib.Omega.{arith}
-use lib.ListN.{length}
 use Rattle.tree.specs.Tree.{Forest, Tree, trees, one}
-use Rattle.tree.specs.Fields.{start}
+use Rattle.tree.specs.Room.{recordsIn}
 use Rattle.rules.specs.Settings.{Settings}
 use Rattle.rules.specs.Reduce.{reduce}
 use Rattle.readings.specs.Node.{SomeNode}
@@ -20,7 +19,7 @@ use Rattle.reducer.specs.Settled.{Stepped}
 pub record GivenTree (s : List ℕ) (at size depth pos room : ℕ) : Type 0 where
   pub tree : Tree
   pub input : Input s at size depth (one tree)
-  pub fits : start (pos + 2 * size) ≤ room + 16
+  pub fits : pos + 2 * size ≤ room + 1
   pub small : 2 * size < 65536
 
 -- Whatever tree stands there, what is left of it was written from record pos to record r.
@@ -33,7 +32,7 @@ pub record GivenChild (s : List ℕ) (at size depth : ℕ) (out : List ℕ) (slo
   pub input : Input s at size depth (one tree)
   pub wait : List Tree
   pub waits : Waits out slot next wait
-  pub fits : start (next + 2 * size) ≤ room
+  pub fits : next + 2 * size ≤ room
   pub small : next + 2 * size < slot + 65536
 
 -- Whatever tree stands there, and whatever waited, the step over it was made.
@@ -45,7 +44,7 @@ pub record ReducedChild (s : List ℕ) (at size depth : ℕ) (st : Settings) (pa
 pub record GivenChildren (s : List ℕ) (at size depth pos room : ℕ) : Type 0 where
   pub forest : Forest
   pub input : Input s at size depth forest
-  pub fits : start (pos + 2 * size) ≤ room
+  pub fits : pos + 2 * size ≤ room
   pub small : 2 * size < 65536
 
 -- Whatever list stands there, and whatever waited, the walk over it was made.
@@ -57,5 +56,5 @@ module _ {s : List ℕ} {at size depth pos room : ℕ} (g : GivenTree s at size 
   pub given-node : SomeNode s at
   given-node = record { tree = g .tree; node = input-node (g .input) }
 
-  pub given-inside : start (at + 1) ≤ length s
+  pub given-inside : at + 1 ≤ recordsIn s
   given-inside = omega (arith, g .input .inside, some-size (g .input))

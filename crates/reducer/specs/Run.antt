@@ -5,20 +5,22 @@ use mathlib.Core.List.{List, [], _∷_, _++_}
 use mathlib.Core.Logic.{⊎-elim}
 use Prim.Native.Nat.{ℕ, zero, suc, _+_, _*_, _-_, _<_, _≤_}
 use native.Mathlib.Omega.{arith}
-use lib.Dec.{eqb, leb, ltb}
+use lib.Dec.{ltb}
 use lib.ListN.{length, getD, drop, length-append, length-drop, List·getD-append}
 use lib.Seq.{ext-getD, getD-append-add, getD-drop}
-use borrow.Author.Tests.{lt-ltb, le-ltb, le-leb}
+use borrow.Author.Tests.{lt-ltb, le-ltb}
 use Rattle.le.specs.Le.{u16At}
 use Rattle.stated.specs.Stated.{refused, answered}
 use Rattle.tree.specs.Tree.{Tree, forest, one, records, size}
 use Rattle.tree.specs.Below.{and-both, and-left, and-right, lt-or-le}
 use Rattle.tree.specs.Children.{nodeOk, formed, wellFormed}
-use Rattle.tree.specs.Fields.{settingsOf, countOf, start}
+use Rattle.tree.specs.Layout.{headerBytes, start}
+use Rattle.tree.specs.Room.{recordsIn, start-first, start-small, start-le, has-room}
+use Rattle.tree.specs.Fields.{settingsOf, countOf}
 use Rattle.tree.specs.File.{bytes, header, fileBytes}
 use Rattle.tree.specs.Refusal.{reduceLimits, listEffectsLimits, refusal, treeOf, markOk, versionOk}
-use Rattle.tree.specs.Encoding.{Bytes, bytes-stand, length-bytes}
-use Rattle.tree.specs.Accepted.{passed, counted-parts, Accepted, accepted, FileOf, file-of, header-is}
+use Rattle.tree.specs.Encoding.{Bytes, bytes-stand, length-file}
+use Rattle.tree.specs.Accepted.{passed, Counted, counted-parts, counted-room, mark-long, mark-copied, Accepted, accepted, FileOf, file-of, header-is}
 use Rattle.tree.specs.Kind as kind
 use Rattle.file.specs.Answer.{verdict, verdict-refused, verdict-accepted}
 use Rattle.rules.specs.Reads.{Premise}
@@ -27,12 +29,13 @@ use Rattle.rules.specs.Theorems.{kept-same-effects, removable-no-effects, at-mo
 use Rattle.readings.specs.Node.{settingsWith}
 use Rattle.readings.specs.Input.{Input}
 use Rattle.effects.specs.Answer.{effectList}
-use Rattle.output.specs.Bytes.{Moved, kept-copied, copied-at}
+use Rattle.output.specs.Bytes.{Moved, copied-at}
+use Rattle.output.specs.Records.{behind-copied}
 use Rattle.output.specs.Trees.{Wrote, spans-copied}
 use Rattle.reducer.specs.declared.Reduced.the-variants.{Refused, Removable, Kept}
 use Rattle.reducer.specs.Header.{Headed}
 use Rattle.reducer.specs.Given.{GivenTree, ReducedTree}
-use Rattle.reducer.specs.Answer.{number, numberBy, left, rewritten, answerList, KeptFile, Promised, Answers}
+use Rattle.reducer.specs.Answer.{leastOutput, number, numberBy, left, rewritten, answerList, KeptFile, Promised, Answers}
 
 -- An accepted file, and room for its answer.
 pub record GivenFile (s : List ℕ) (count settings : ℕ) (out : List ℕ) : Type 0 where
@@ -40,7 +43,7 @@ pub record GivenFile (s : List ℕ) (count settings : ℕ) (out : List ℕ) : Ty
   pub count-is : count ≡ countOf s
   pub settings-is : settings ≡ settingsOf s
   pub is-bytes : Bytes s
-  pub fits : 8 + 16 * (2 * count - 1) ≤ length out
+  pub fits : leastOutput count ≤ length out
 
 -- What holds of the answer to an accepted file.
 module _ (s : List ℕ) (bs : Bytes s) (e : refusal reduceLimits s ≡ 0) where
@@ -81,7 +84,7 @@ module _ (s : List ℕ) (bs : Bytes s) (e : refusal reduceLimits s ≡ 0) where
 -- No number: no refusal of the file.
 pub unnumbered : (s : List ℕ) (room : ℕ) → number s room ≡ 0 → refusal reduceLimits s ≡ 0
 unfolding number
-unnumbered s room z = go (refusal reduceLimits s) (ltb room (8 + 16 * (2 * countOf s - 1))) z
+unnumbered s room z = go (refusal reduceLimits s) (ltb room (leastOutput (countOf s))) z
   where
     go : (k : ℕ) (b : Bool) → numberBy k b ≡ 0 → k ≡ 0
     go zero b z = refl
@@ -106,14 +109,17 @@ module _ (s : List ℕ) (st n : ℕ) (e : answered (st ∷ n ∷ []) ≡ verdict
   pub count-few : (1 ≤ n) × (n ≤ 2000)
   count-few = let k = counted-parts (reduceLimits .records) s (passed reduceLimits s is-zero .counted) in omega (arith, is-count, k .some, k .few)
 
-  pub refused-room : Bytes s → {old : List ℕ} → length old < 8 + 16 * (2 * n - 1) → Answers s old old (Refused 9)
+  pub least-small : leastOutput n < 18446744073709551616
+  least-small = start-small (2 * n - 1) (omega (arith, count-few))
+
+  pub refused-room : Bytes s → {old : List ℕ} → {least : ℕ} → least ≡ leastOutput n → length old < least → Answers s old old (Refused 9)
   unfolding number
-  refused-room bs {old} l =
-      let x : ltb (length old) (8 + 16 * (2 * countOf s - 1)) ≡ true = lt-ltb (length old) (8 + 16 * (2 * countOf s - 1)) (omega (arith, is-count)) in
+  refused-room bs {old} e l =
+      let x : ltb (length old) (leastOutput (countOf s)) ≡ true = lt-ltb (length old) (leastOutput (countOf s)) (omega (arith, e, ap leastOutput is-count)) in
       record { answer = rw (is-zero, x); bytes = rw (is-zero, x); promised = λ q. promises s bs is-zero }
 
-  pub file-given : Bytes s → {out : List ℕ} → 8 + 16 * (2 * n - 1) ≤ length out → GivenFile s n st out
-  file-given bs l = record { accepted-is = is-zero; count-is = is-count; settings-is = verdict-accepted reduceLimits s st n e .1; is-bytes = bs; fits = l }
+  pub file-given : Bytes s → {out : List ℕ} {least : ℕ} → least ≡ leastOutput n → least ≤ length out → GivenFile s n st out
+  file-given bs x l = record { accepted-is = is-zero; count-is = is-count; settings-is = verdict-accepted reduceLimits s st n e .1; is-bytes = bs; fits = omega (arith, x) }
 
 -- A list that starts with f, copied over the first bytes of another.
 overwritten : (f rest w old new : List ℕ) → w ≡ f ++ rest → Moved w 0 (length f) old new 0 → length new ≡ length old → length f ≤ length old → new ≡ f ++ drop (length f) old
@@ -142,15 +148,24 @@ overwritten f rest w old new e m n l = ext-getD 0 new (f ++ drop (length f) old)
             ∙ ap (λ (j : ℕ). getD (f ++ drop (length f) old) j 0) (sym y)
 
 module _ {s : List ℕ} {count settings : ℕ} {old : List ℕ} (g : GivenFile s count settings old) where
-  pub count-bounds : (1 ≤ count) × (count ≤ 2000) × (length s ≡ 8 + 16 * count)
-  count-bounds = let k = counted-parts (reduceLimits .records) s (passed reduceLimits s (g .accepted-is) .counted) in omega (arith, g .count-is, k .some, k .few, k .long)
+  counted : Counted (reduceLimits .records) s
+  counted = counted-parts (reduceLimits .records) s (passed reduceLimits s (g .accepted-is) .counted)
+
+  pub count-bounds : (1 ≤ count) × (count ≤ 2000)
+  count-bounds = omega (arith, g .count-is, counted .some, counted .few)
+
+  pub header-fits : headerBytes ≤ leastOutput count
+  header-fits = omega (arith, start-first, start-le 0 (2 * count - 1) (omega arith))
+
+  pub header-inside : headerBytes ≤ length s
+  header-inside = mark-long s (passed reduceLimits s (g .accepted-is) .mark)
 
   file : Accepted reduceLimits s
   file = accepted reduceLimits s (g .is-bytes) (g .accepted-is)
 
   no-number : number s (length old) ≡ 0
   unfolding number
-  no-number = rw (g .accepted-is, le-ltb (length old) (8 + 16 * (2 * countOf s - 1)) (omega (arith, g .fits, g .count-is)))
+  no-number = rw (g .accepted-is, le-ltb (length old) (leastOutput (countOf s)) (omega (arith, g .fits, ap leastOutput (g .count-is))))
 
   formed-root : formed (one (treeOf s)) ≡ true
   unfolding wellFormed formed
@@ -163,12 +178,17 @@ module _ {s : List ℕ} {count settings : ℕ} {old : List ℕ} (g : GivenFile s
     holds = record { stands = file .stands; sized = omega (arith, g .count-is, file .sized) };
     ok = formed-root;
     low = omega (arith, file .permitted .low);
-    inside = omega (arith, count-bounds);
+    inside = omega (arith, g .count-is, counted-room counted);
     small = omega (arith, count-bounds);
   }
 
-  pub root-given : {room : ℕ} → 8 + 16 * (2 * count - 1) ≤ room → GivenTree s 0 count 64 0 room
-  root-given l = record { tree = treeOf s; input = root-input; fits = omega (arith, count-bounds); small = omega (arith, count-bounds) }
+  pub root-given : (work : List ℕ) → leastOutput count ≤ length work → GivenTree s 0 count 64 0 (recordsIn work)
+  root-given work l = record {
+    tree = treeOf s;
+    input = root-input;
+    fits = omega (arith, count-bounds, has-room (length work) (2 * count - 1) l);
+    small = omega (arith, count-bounds);
+  }
 
   root-wrote : {work work′ : List ℕ} {end : ℕ} → ReducedTree s 0 count 64 (settingsWith settings) work work′ 0 end → Wrote work work′ 0 end (left s)
   unfolding left
@@ -176,6 +196,12 @@ module _ {s : List ℕ} {count settings : ℕ} {old : List ℕ} (g : GivenFile s
 
   pub end-few : {work work′ : List ℕ} {end : ℕ} → ReducedTree s 0 count 64 (settingsWith settings) work work′ 0 end → end ≤ 2 * count - 1
   end-few a = omega (arith, root-wrote a .spans .ends, promises s (g .is-bytes) (g .accepted-is) .few, g .count-is)
+
+  pub end-small : {work work′ : List ℕ} {end : ℕ} → ReducedTree s 0 count 64 (settingsWith settings) work work′ 0 end → start end < 18446744073709551616
+  end-small {end = end} a = start-small end (omega (arith, end-few a, count-bounds))
+
+  pub end-fits : {work work′ : List ℕ} {end : ℕ} → ReducedTree s 0 count 64 (settingsWith settings) work work′ 0 end → start end ≤ leastOutput count
+  end-fits {end = end} a = start-le end (2 * count - 1) (end-few a)
 
   pub removable : {work work′ : List ℕ} {end : ℕ} → ReducedTree s 0 count 64 (settingsWith settings) work work′ 0 end → end ≡ 0 → Answers s old old Removable
   unfolding rewritten
@@ -186,13 +212,11 @@ module _ {s : List ℕ} {count settings : ℕ} {old : List ℕ} (g : GivenFile s
       go (t ∷ ts) x w = absurd (omega (arith, w .spans .ends, ap (λ (l : List Tree). records (forest l)) x))
 
   -- What was kept, its header written, is the bytes of the rewritten file.
-  module _ {work mid work′ : List ℕ} {end : ℕ} (a : ReducedTree s 0 count 64 (settingsWith settings) work mid 0 end) (h : Headed s mid work′ end) (bs : Bytes work′) (long : 8 + 16 * end ≤ length work′) where
+  module _ {work mid work′ : List ℕ} {end : ℕ} (a : ReducedTree s 0 count 64 (settingsWith settings) work mid 0 end) (h : Headed s mid work′ end) (bs : Bytes work′) (long : start end ≤ length work′) where
     mark-is : markOk work′ ≡ true
-    unfolding markOk
     mark-is =
-        let m = passed reduceLimits s (g .accepted-is) .mark in
-        let x = and-right (leb 8 (length s)) (eqb (getD s 0 0) 85 && (eqb (getD s 1 0) 88 && eqb (getD s 2 0) 84)) m in
-        and-both (le-leb 8 (length work′) (omega arith)) (rw (h .same 0 (omega arith), h .same 1 (omega arith), h .same 2 (omega arith)) x)
+        mark-copied s work′ (passed reduceLimits s (g .accepted-is) .mark) (omega (arith, long, start-first, start-le 0 end (omega arith)))
+        (λ k l. h .same k (omega arith))
 
     version-is : versionOk work′ ≡ true
     unfolding versionOk u16At
@@ -203,31 +227,32 @@ module _ {s : List ℕ} {count settings : ℕ} {old : List ℕ} (g : GivenFile s
     file-is t x =
         let w : Wrote work mid 0 end (t ∷ []) = rw x at (root-wrote a) in
         let z : end ≡ size t = omega (arith, w .spans .ends) in
-        let d = spans-copied 0 (w .spans) (kept-copied 8 (16 * records (forest (t ∷ []))) (omega arith) (h .above)) in
+        let d = spans-copied 0 (w .spans) (behind-copied 0 (records (forest (t ∷ []))) (omega arith) (h .above)) in
         header-is work′ bs mark-is version-is
-        ∙ ap (λ (y : ℕ). header y (countOf work′) (drop 8 work′)) (h .same 5 (omega arith))
-        ∙ ap (λ (y : ℕ). header (settingsOf s) y (drop 8 work′)) (h .counts ∙ z)
-        ∙ ap (header (settingsOf s) (size t)) (bytes-stand work′ bs (one t) 0 end (d .stands) (omega arith) (omega arith))
+        ∙ ap (λ (y : ℕ). header y (countOf work′) (drop headerBytes work′)) (h .same 5 (omega arith))
+        ∙ ap (λ (y : ℕ). header (settingsOf s) y (drop headerBytes work′)) (h .counts ∙ z)
+        ∙ ap (header (settingsOf s) (size t)) (ap (λ (p : ℕ). drop p work′) (sym start-first)
+        ∙ bytes-stand work′ bs (one t) 0 end (d .stands) (omega (arith, has-room (length work′) end long)) (omega arith))
 
-    file-long : (t : Tree) → left s ≡ t ∷ [] → length (fileBytes (settingsOf s) t) ≡ 8 + 16 * end
-    unfolding fileBytes
+    file-long : (t : Tree) → left s ≡ t ∷ [] → length (fileBytes (settingsOf s) t) ≡ start end
     file-long t x =
         let w : Wrote work mid 0 end (t ∷ []) = rw x at (root-wrote a) in
-        omega (arith, length-bytes (one t), w .spans .ends)
+        let z : size t ≡ end = omega (arith, w .spans .ends) in
+        length-file (settingsOf s) t ∙ ap start z
 
-    pub kept : {new : List ℕ} → (end ≡ 0 → ⊥) → Moved work′ 0 (8 + 16 * end) old new 0 → length new ≡ length old → Answers s old new (Kept (8 + 16 * end))
+    pub kept : {new : List ℕ} → (end ≡ 0 → ⊥) → {written : ℕ} → written ≡ start end → Moved work′ 0 written old new 0 → length new ≡ length old → Answers s old new (Kept written)
     unfolding rewritten
-    kept {new} n m l = go (left s) refl (promises s (g .is-bytes) (g .accepted-is) .at-most-one)
+    kept {new} n {written} y m l = go (left s) refl (promises s (g .is-bytes) (g .accepted-is) .at-most-one)
       where
-        go : (ts : List Tree) → left s ≡ ts → length (left s) ≤ 1 → Answers s old new (Kept (8 + 16 * end))
+        go : (ts : List Tree) → left s ≡ ts → length (left s) ≤ 1 → Answers s old new (Kept written)
         go [] x o = absurd (n (omega (arith, root-wrote a .spans .ends, ap (λ (r : List Tree). records (forest r)) x)))
         go (t ∷ []) x o =
-            let z = file-long t x in
+            let z = file-long t x ∙ sym y in
             record {
               answer = rw (no-number, x, z);
               bytes = rw (no-number, x)
                   (overwritten (fileBytes (settingsOf s) t) (drop (start end) work′) work′ old new (file-is t x) (rw (← z) at m) l
-                  (omega (arith, z, g .fits, end-few a, count-bounds)));
+                  (omega (arith, z, y, g .fits, end-fits a)));
               promised = λ q. promises s (g .is-bytes) (g .accepted-is);
             }
         go (t ∷ u ∷ us) x o = absurd (omega (arith, o, ap length x))

@@ -2,15 +2,15 @@
 use mathlib.Core.Path.{_≡_, refl, sym, ap, subst, _∙_}
 use mathlib.Core.Bool.{Bool, false}
 use mathlib.Core.List.{List, [], _∷_}
-use Prim.Native.Nat.{ℕ, _+_, _*_, _<_, _≤_}
+use Prim.Native.Nat.{ℕ, _+_, _<_, _≤_}
 use native.Mathlib.Omega.{arith}
-use lib.ListN.{length}
-use Rattle.tree.specs.Tree.{Head, Tree, forest, records}
-use Rattle.tree.specs.Fields.{start, headAt}
+use Rattle.tree.specs.Tree.{Place, Head, Tree, forest, records}
+use Rattle.tree.specs.Room.{recordsIn}
+use Rattle.tree.specs.Fields.{headAt}
 use Rattle.rules.specs.Made.{placeOf, makeTemplate, makeObject}
 use Rattle.rules.specs.Reduce.{flush}
 use Rattle.readings.specs.Node.{Tells}
-use Rattle.output.specs.Bytes.{Kept, agree-all, kept-copied}
+use Rattle.output.specs.Records.{Behind, before-all, behind-copied}
 use Rattle.output.specs.Trees.{Spans, Wrote, wrote-none, spans-append, stands-copied}
 use Rattle.rewrite.specs.Waiting.{Waits, GivenWaiting, Flushed, waits-none}
 use Rattle.reducer.specs.declared.walk.Part.{Part}
@@ -27,7 +27,7 @@ pub record GivenSettled (out : List ℕ) (slot next end : ℕ) : Type 0 where
   pub waits : Waits out slot next wait
   pub left : List Tree
   pub spans : Spans out next end left
-  pub inside : start end ≤ length out
+  pub inside : end ≤ recordsIn out
   pub small : next < slot + 65536
 
 -- Whatever waited, and whatever trees stand from record next to record end.
@@ -36,7 +36,7 @@ pub record SettlesKept (old new : List ℕ) (slot next end slot′ next′ : ℕ
   pub few : next′ ≤ end
 
 pub record GivenSettle (s : List ℕ) (at : ℕ) (out : List ℕ) (slot next end : ℕ) : Type 0 where
-  pub node-inside : start (at + 1) ≤ length s
+  pub node-inside : at + 1 ≤ recordsIn s
   pub list : GivenSettled out slot next end
 
 pub record Settles (s : List ℕ) (at : ℕ) (part : Part) (old new : List ℕ) (slot next end slot′ next′ : ℕ) : Type 0 where
@@ -44,16 +44,16 @@ pub record Settles (s : List ℕ) (at : ℕ) (part : Part) (old new : List ℕ) 
   pub few : next′ ≤ end
 
 -- What stands behind bytes that have changed.
-spans-kept : {old new : List ℕ} {p e : ℕ} {ts : List Tree} → Spans old p e ts → Kept old new (start p) → Spans new p e ts
+spans-kept : {old new : List ℕ} {p e : ℕ} {ts : List Tree} → Spans old p e ts → Behind old new p → Spans new p e ts
 spans-kept {p = p} {ts = ts} d k = record {
-  stands = stands-copied (forest ts) p p (kept-copied (start p) (16 * records (forest ts)) (omega arith) k) (d .stands);
+  stands = stands-copied (forest ts) p p (behind-copied p (records (forest ts)) (omega arith) k) (d .stands);
   ends = d .ends;
 }
 
-pub settled-waiting : {out : List ℕ} {slot next end place : ℕ} → GivenSettled out slot next end → place < 4294967296 → GivenWaiting out slot next place
-settled-waiting g l = record { list = g .wait; waits = g .waits; inside = omega (arith, g .inside, g .spans .ends); small = g .small; place-small = l }
+pub settled-waiting : {out : List ℕ} {slot next end : ℕ} → GivenSettled out slot next end → GivenWaiting out slot next
+settled-waiting g = record { list = g .wait; waits = g .waits; inside = omega (arith, g .inside, g .spans .ends); small = g .small }
 
-pub settled-inside : {out : List ℕ} {slot next end : ℕ} → GivenSettled out slot next end → (end ≡ next → ⊥) → start (next + 1) ≤ length out
+pub settled-inside : {out : List ℕ} {slot next end : ℕ} → GivenSettled out slot next end → (end ≡ next → ⊥) → next + 1 ≤ recordsIn out
 settled-inside g n = omega (arith, g .inside, g .spans .ends, n)
 
 module _ {old : List ℕ} {slot next end : ℕ} where
@@ -62,30 +62,30 @@ module _ {old : List ℕ} {slot next end : ℕ} where
   settled-gone e = record { by = λ w x r d. go w x r d; few = omega arith }
     where
       go : (w : List Tree) → Waits old slot next w → (r : List Tree) → Spans old next end r → Stepped old old slot slot next (settledKept w r)
-      go w x [] d = record { done = wrote-none (agree-all old (start slot)); waiting = x }
+      go w x [] d = record { done = wrote-none (before-all old slot); waiting = x }
       go w x (t ∷ r) d = absurd (omega (arith, d .ends))
 
   -- What waited is made, and the trees behind it are settled.
-  pub settled-left : {new : List ℕ} {place : ℕ} → (end ≡ next → ⊥) → place ≡ headAt old next .place → Flushed makeTemplate old new slot next place → SettlesKept old new slot next end end end
+  pub settled-left : {new : List ℕ} {place : Place} → (end ≡ next → ⊥) → place ≡ headAt old next .place → Flushed makeTemplate old new slot next place → SettlesKept old new slot next end end end
   settled-left {new} {place} n ep f = record { by = λ w x r d. go w x r d; few = omega arith }
     where
       go : (w : List Tree) → Waits old slot next w → (r : List Tree) → Spans old next end r → Stepped old new slot end end (settledKept w r)
       go w x [] d = absurd (n (omega (arith, d .ends)))
       go w x (t ∷ r) d =
           let p : place ≡ t .head .place = ep ∙ ap (λ (h : Head). h .place) (d .stands .0) in
-          let y : Wrote old new slot next (flush makeTemplate (placeOf t) w) = subst (λ (q : ℕ). Wrote old new slot next (flush makeTemplate q w)) p (f .by w x) in
+          let y : Wrote old new slot next (flush makeTemplate (placeOf t) w) = subst (λ (q : Place). Wrote old new slot next (flush makeTemplate q w)) p (f .by w x) in
           record {
             done = record { spans = spans-append (flush makeTemplate (placeOf t) w) (t ∷ r) (y .spans) (spans-kept d (f .above)); frame = y .frame };
             waiting = waits-none new end;
           }
 
 module _ {s : List ℕ} {at : ℕ} {old : List ℕ} {slot next end : ℕ} where
-  pub settled-object : {new : List ℕ} {place : ℕ} → GivenSettled old slot next end → place ≡ headAt s at .place → Flushed makeObject old new slot next place → Settles s at Object old new slot next end end end
+  pub settled-object : {new : List ℕ} {place : Place} → GivenSettled old slot next end → place ≡ headAt s at .place → Flushed makeObject old new slot next place → Settles s at Object old new slot next end end end
   settled-object {new} {place} g ep f = record { by = λ t h w x r d. go t (ep ∙ ap (λ (y : Head). y .place) h) w x r d; few = omega arith }
     where
       go : (t : Tree) → place ≡ t .head .place → (w : List Tree) → Waits old slot next w → (r : List Tree) → Spans old next end r → Stepped old new slot end end (settled Object t w r)
       go t p w x r d =
-          let y : Wrote old new slot next (flush makeObject (placeOf t) w) = subst (λ (q : ℕ). Wrote old new slot next (flush makeObject q w)) p (f .by w x) in
+          let y : Wrote old new slot next (flush makeObject (placeOf t) w) = subst (λ (q : Place). Wrote old new slot next (flush makeObject q w)) p (f .by w x) in
           record {
             done = record { spans = spans-append (flush makeObject (placeOf t) w) r (y .spans) (spans-kept d (f .above)); frame = y .frame };
             waiting = waits-none new end;

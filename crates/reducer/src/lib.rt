@@ -5,10 +5,13 @@ mod header;
 mod walk;
 
 use file::Checked;
-ghost use Prim.Native.Nat.{_+_, _*_, _-_, _≤_};
+ghost use Prim.Native.Nat.{_≤_};
 ghost use lib.ListN.{length};
-ghost use Rattle.reducer.specs.Answer.{Answers};
+ghost use Rattle.reducer.specs.Answer.{leastOutput, Answers};
 ghost use Rattle.reducer.specs.Run.{GivenFile};
+
+// The output that any file's answer fits: a file of 3,999 records, which 2,000 may become.
+pub const MOST_OUTPUT: usize = 63992;
 
 pub enum Reduced {
     // The number of the first refusal that applies; no byte of the output has changed.
@@ -27,7 +30,7 @@ pub fn reduce(src: &[u8], out: &mut [u8]) -> Reduced
     match checked {
         Checked::Refused(number) => Reduced::Refused(number),
         Checked::Accepted { settings, count } => {
-            if out.len() < 8 + 16 * (2 * count - 1) {
+            if out.len() < fields::file_length(src, 2 * count - 1) {
                 return Reduced::Refused(9);
             }
             reduce_by_size(src, count, settings, out)
@@ -49,12 +52,12 @@ fn reduce_by_size(src: &[u8], count: usize, settings: u8, out: &mut [u8]) -> Red
         let mut work = [0u8; 8184];
         return reduce_in(src, count, settings, &mut work, out);
     }
-    let mut work = [0u8; 63992];
+    let mut work = [0u8; MOST_OUTPUT];
     reduce_in(src, count, settings, &mut work, out)
 }
 
 fn reduce_in(src: &[u8], count: usize, settings: u8, work: &mut [u8], out: &mut [u8]) -> Reduced
-    requires { ⌜ GivenFile (now src) count settings (now out) × (8 + 16 * (2 * count - 1) ≤ length (now work)) ⌝ }
+    requires { ⌜ GivenFile (now src) count settings (now out) × (leastOutput count ≤ length (now work)) ⌝ }
     ensures { λ r. ⌜ Answers (now (src .entry)) (now (out .entry)) (now (out .exit)) r ⌝ }
 {
     let end = expression::remove_unused_expression(
@@ -70,7 +73,7 @@ fn reduce_in(src: &[u8], count: usize, settings: u8, work: &mut [u8], out: &mut 
         return Reduced::Removable;
     }
     header::write_header(src, work, end);
-    let length = 8 + 16 * end;
+    let length = fields::file_length(src, end);
     output::copy_bytes(work, 0, length, out, 0);
     Reduced::Kept(length)
 }

@@ -1,8 +1,7 @@
 // What is left of a list of children, child by child, as the parent asks for it.
 use fields::kind;
 ghost use Prim.Native.Nat.{_+_, _≤_};
-ghost use lib.ListN.{length};
-ghost use Rattle.tree.specs.Fields.{start};
+ghost use Rattle.tree.specs.Room.{recordsIn};
 ghost use Rattle.readings.specs.Node.{Tells};
 ghost use Rattle.reducer.specs.Walked.{waits, wraps};
 ghost use Rattle.reducer.specs.Settled.{GivenSettled, SettlesKept, GivenSettle, Settles};
@@ -25,7 +24,7 @@ pub struct Walked {
 }
 
 pub fn waits_at(src: &[u8], at: usize, part: Part) -> bool
-    requires { ⌜ start (at + 1) ≤ length (now src) ⌝ }
+    requires { ⌜ at + 1 ≤ recordsIn (now src) ⌝ }
     ensures { λ r. ⌜ Tells (now (src .entry)) at (waits part) r ⌝ }
 {
     match part {
@@ -37,7 +36,7 @@ pub fn waits_at(src: &[u8], at: usize, part: Part) -> bool
 }
 
 pub fn wraps_at(src: &[u8], at: usize, part: Part) -> bool
-    requires { ⌜ start (at + 1) ≤ length (now src) ⌝ }
+    requires { ⌜ at + 1 ≤ recordsIn (now src) ⌝ }
     ensures { λ r. ⌜ Tells (now (src .entry)) at (wraps part) r ⌝ }
 {
     match part {

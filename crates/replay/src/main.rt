@@ -59,7 +59,7 @@ fn replay_cases(input: &[u8])
 
 // The array has room for what any file that is taken is reduced to.
 fn reduces_to(src: &[u8], answer: &[u8]) -> bool {
-    let mut out = [0u8; 63992];
+    let mut out = [0u8; reducer::MOST_OUTPUT];
     let reduced = reducer::reduce(src, &mut out);
     match reduced {
         Reduced::Refused(_) => false,

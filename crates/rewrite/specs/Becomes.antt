@@ -2,26 +2,26 @@
 use mathlib.Core.Path.{_≡_, refl, sym, ap, _∙_}
 use mathlib.Core.Bool.{Bool, true, false, cond}
 use mathlib.Core.List.{List, [], _∷_}
-use Prim.Native.Nat.{ℕ, _+_, _*_, _-_, _<_, _≤_}
+use Prim.Native.Nat.{ℕ, _+_, _-_, _<_, _≤_}
 use native.Mathlib.Omega.{arith}
-use lib.ListN.{length}
-use Rattle.tree.specs.Tree.{Head, Tree, forest, records}
-use Rattle.tree.specs.Fields.{start, headAt, subtreeAt}
+use Rattle.tree.specs.Tree.{Place, Head, Tree, forest, records}
+use Rattle.tree.specs.Room.{recordsIn}
+use Rattle.tree.specs.Fields.{headAt, subtreeAt}
 use Rattle.rules.specs.Lists.{any}
 use Rattle.rules.specs.Handler.{isSpread}
 use Rattle.rules.specs.Made.{placeOf, makeSequence, withChildren}
 use Rattle.rules.specs.Reduce.{noneOneSeveral, staysWith, joinKept}
-use Rattle.output.specs.Bytes.{Recorded, Shifted, agree-all}
+use Rattle.output.specs.Records.{MovedRecords, Recorded, before-all}
 use Rattle.output.specs.Trees.{Spans, Wrote, wrote-none, wrote-as, stands-copied, recorded-node}
 use Rattle.output.specs.Lists.{Spanned, Counts, AnyOf}
 use Rattle.rewrite.specs.Made.{GivenMade, Makes}
 
 -- The node at record `at` of s, and some list behind the free record pos of out.
 pub record GivenList (s : List ℕ) (at : ℕ) (out : List ℕ) (pos end : ℕ) : Type 0 where
-  pub node-inside : start (at + 1) ≤ length s
+  pub node-inside : at + 1 ≤ recordsIn s
   pub list : List Tree
   pub spans : Spans out (pos + 1) end list
-  pub inside : start end ≤ length out
+  pub inside : end ≤ recordsIn out
   pub small : end < pos + 65536
 
 -- Whatever node t stands at record `at` of s, and whatever list behind record pos: f t of the list was written from there to r.
@@ -41,16 +41,16 @@ module _ {s : List ℕ} {at : ℕ} {out : List ℕ} {pos end : ℕ} (g : GivenLi
   pub list-spanned : Spanned out (pos + 1) end
   list-spanned = record { list = g .list; spans = g .spans; inside = g .inside }
 
-  pub list-made : {place : ℕ} → place < 4294967296 → GivenMade out pos end place
-  list-made l = record { list = g .list; spans = g .spans; inside = g .inside; small = g .small; place-small = l }
+  pub list-made : GivenMade out pos end
+  list-made = record { list = g .list; spans = g .spans; inside = g .inside; small = g .small }
 
   pub list-after : pos + 1 ≤ end
   list-after = omega (arith, g .spans .ends)
 
-  pub first-inside : (end ≡ pos + 1 → ⊥) → start (pos + 1 + 1) ≤ length out
+  pub first-inside : (end ≡ pos + 1 → ⊥) → pos + 1 + 1 ≤ recordsIn out
   first-inside n = go (g .list) (g .spans)
     where
-      go : (ts : List Tree) → Spans out (pos + 1) end ts → start (pos + 1 + 1) ≤ length out
+      go : (ts : List Tree) → Spans out (pos + 1) end ts → pos + 1 + 1 ≤ recordsIn out
       go [] d = absurd (n (omega (arith, d .ends)))
       go (t ∷ ts) d = omega (arith, d .ends, g .inside)
 
@@ -60,7 +60,7 @@ module _ {s : List ℕ} {at : ℕ} {old : List ℕ} {pos end : ℕ} (e : end ≡
   none-left f x = record { by = λ t h ts d. go t ts d }
     where
       go : (t : Tree) (ts : List Tree) → Spans old (pos + 1) end ts → Wrote old old pos pos (f t ts)
-      go t [] d = wrote-as (wrote-none (agree-all old (start pos))) (sym (x t))
+      go t [] d = wrote-as (wrote-none (before-all old pos)) (sym (x t))
       go t (y ∷ ys) d = absurd (omega (arith, d .ends))
 
   pub none-one-several-none : Becomes noneOneSeveralOf s at old old pos end pos
@@ -73,29 +73,28 @@ module _ {s : List ℕ} {at : ℕ} {old : List ℕ} {pos end : ℕ} (e : end ≡
   join-none = none-left joinKeptOf (λ t. refl)
 
 -- One tree, by its size z: moved down.
-pub one-left : {s : List ℕ} {at : ℕ} {old new : List ℕ} {pos end z : ℕ} → z ≡ subtreeAt old (pos + 1) → (end ≡ pos + 1 → ⊥) → pos + 1 + z ≡ end → Shifted old new (start pos) (16 * z) → Becomes noneOneSeveralOf s at old new pos end (end - 1)
+pub one-left : {s : List ℕ} {at : ℕ} {old new : List ℕ} {pos end z : ℕ} → z ≡ subtreeAt old (pos + 1) → (end ≡ pos + 1 → ⊥) → pos + 1 + z ≡ end → MovedRecords old (pos + 1) z old new pos → Becomes noneOneSeveralOf s at old new pos end (end - 1)
 one-left {s} {at} {old} {new} {pos} {end} {z} ez n e m = record { by = λ t h ts d. go t ts d }
   where
     go : (t : Tree) (ts : List Tree) → Spans old (pos + 1) end ts → Wrote old new pos (end - 1) (noneOneSeveral (placeOf t) ts)
     go t [] d = absurd (n (omega (arith, d .ends)))
     go t (x ∷ []) d =
-        let y : 16 * z ≡ 16 * records (forest (x ∷ [])) = omega (arith, d .stands .2) in
-        let w : start pos + 16 ≡ start (pos + 1) = omega arith in
+        let y : z ≡ records (forest (x ∷ [])) = omega (arith, d .stands .2) in
         record {
-          spans = record { stands = stands-copied (forest (x ∷ [])) (pos + 1) pos (rw (y, w) at (m .there)) (d .stands); ends = omega (arith, d .ends) };
+          spans = record { stands = stands-copied (forest (x ∷ [])) (pos + 1) pos (rw y at (m .there)) (d .stands); ends = omega (arith, d .ends) };
           frame = m .below;
         }
     go t (x ∷ y ∷ ys) d = absurd (omega (arith, d .ends, d .stands .2))
 
 -- More than one, by the first one's size z.
 module _ {s : List ℕ} {at : ℕ} {old : List ℕ} {pos end z : ℕ} (ez : z ≡ subtreeAt old (pos + 1)) (n : end ≡ pos + 1 → ⊥) where
-  pub several-left : {new : List ℕ} {place : ℕ} → (pos + 1 + z ≡ end → ⊥) → place ≡ headAt s at .place → Makes makeSequence old new pos end place → Becomes noneOneSeveralOf s at old new pos end end
+  pub several-left : {new : List ℕ} {place : Place} → (pos + 1 + z ≡ end → ⊥) → place ≡ headAt s at .place → Makes makeSequence old new pos end place → Becomes noneOneSeveralOf s at old new pos end end
   several-left {new} {place} e ep m = record { by = λ t h ts d. go t (ep ∙ ap (λ (x : Head). x .place) h) ts d }
     where
       go : (t : Tree) → place ≡ t .head .place → (ts : List Tree) → Spans old (pos + 1) end ts → Wrote old new pos end (noneOneSeveral (placeOf t) ts)
       go t p [] d = absurd (n (omega (arith, d .ends)))
       go t p (x ∷ []) d = absurd (e (omega (arith, d .ends, d .stands .2)))
-      go t p (x ∷ y ∷ ys) d = wrote-as (m .by (x ∷ y ∷ ys) d) (ap (λ (q : ℕ). makeSequence q (x ∷ y ∷ ys) ∷ []) p)
+      go t p (x ∷ y ∷ ys) d = wrote-as (m .by (x ∷ y ∷ ys) d) (ap (λ (q : Place). makeSequence q (x ∷ y ∷ ys) ∷ []) p)
 
 -- The node itself over what is left.
 pub stays-some : {s : List ℕ} {at : ℕ} {old new : List ℕ} {pos end n z : ℕ} → (end ≡ pos + 1 → ⊥) → Counts old (pos + 1) end n → z ≡ end - pos → Recorded old new pos (headAt s at) n z → Becomes staysWith s at old new pos end end
@@ -105,7 +104,7 @@ stays-some {s} {at} {old} {new} {pos} {end} {n} {z} ne c ez r = record { by = λ
     go : (t : Tree) → headAt s at ≡ t .head → (ts : List Tree) → Spans old (pos + 1) end ts → Wrote old new pos end (staysWith t ts)
     go t h [] d = absurd (ne (omega (arith, d .ends)))
     go t h (x ∷ xs) d =
-        wrote-as (recorded-node (x ∷ xs) (agree-all old (start pos)) d r (c .by (x ∷ xs) d) (omega (arith, d .ends)))
+        wrote-as (recorded-node (x ∷ xs) (before-all old pos) d r (c .by (x ∷ xs) d) (omega (arith, d .ends)))
         (ap (λ (y : Head). record { head = y; kids = forest (x ∷ xs) } ∷ []) h)
 
 -- An array, by whether a spread is left.

@@ -6,31 +6,30 @@ use Prim.Native.Nat.{ℕ, _+_, _-_, _<_, _≤_}
 use native.Mathlib.Omega.{arith}
 use lib.ListN.{length}
 use Rattle.tree.specs.Tree.{Place, Tree, forest, records}
-use Rattle.tree.specs.Fields.{start}
+use Rattle.tree.specs.Room.{recordsIn}
 use Rattle.rules.specs.Facts.{flagged}
 use Rattle.rules.specs.Made.{made, madeHead, flagOf, makeSequence, makeObject, makeTemplate}
 use Rattle.tree.specs.Kind as kind
-use Rattle.output.specs.Bytes.{Kept, Recorded, agree-all}
+use Rattle.output.specs.Records.{Behind, Recorded, before-all}
 use Rattle.output.specs.Trees.{Spans, Wrote, wrote-as, recorded-node}
 use Rattle.output.specs.Lists.{Spanned, Counts, AnyOf}
 
 -- Some list stands behind record pos, to record end, and there is room for the record.
-pub record GivenMade (out : List ℕ) (pos end place : ℕ) : Type 0 where
+pub record GivenMade (out : List ℕ) (pos end : ℕ) : Type 0 where
   pub list : List Tree
   pub spans : Spans out (pos + 1) end list
-  pub inside : start end ≤ length out
+  pub inside : end ≤ recordsIn out
   pub small : end < pos + 65536
-  pub place-small : place < 4294967296
 
 -- Record pos was made over whatever list stands behind it; all behind that record is as it was.
-pub record MadeOver (old new : List ℕ) (pos end kind facts place : ℕ) : Type 0 where
+pub record MadeOver (old new : List ℕ) (pos end kind facts : ℕ) (place : Place) : Type 0 where
   pub by : (ts : List Tree) → Spans old (pos + 1) end ts → Wrote old new pos end (made kind facts place ts ∷ [])
-  pub above : Kept old new (start (pos + 1))
+  pub above : Behind old new (pos + 1)
 
 -- The same of a rule's made node.
-pub record Makes (make : Place → List Tree → Tree) (old new : List ℕ) (pos end place : ℕ) : Type 0 where
+pub record Makes (make : Place → List Tree → Tree) (old new : List ℕ) (pos end : ℕ) (place : Place) : Type 0 where
   pub by : (ts : List Tree) → Spans old (pos + 1) end ts → Wrote old new pos end (make place ts ∷ [])
-  pub above : Kept old new (start (pos + 1))
+  pub above : Behind old new (pos + 1)
 
 pub record FlagOf (s : List ℕ) (p e r : ℕ) : Type 0 where
   pub by : (ts : List Tree) → Spans s p e ts → r ≡ flagOf ts
@@ -44,7 +43,7 @@ module _ {s : List ℕ} {p e : ℕ} {b : Bool} (a : AnyOf s p e flagged b) where
   unfolding flagOf
   flag-clear x = record { by = λ ts d. sym (ap (λ (y : Bool). cond y 1 0) (sym (a .by ts d) ∙ x)) }
 
-module _ {out : List ℕ} {pos end place : ℕ} (g : GivenMade out pos end place) where
+module _ {out : List ℕ} {pos end : ℕ} (g : GivenMade out pos end) where
   pub made-spanned : Spanned out (pos + 1) end
   made-spanned = record { list = g .list; spans = g .spans; inside = g .inside }
 
@@ -58,13 +57,13 @@ module _ {out : List ℕ} {pos end place : ℕ} (g : GivenMade out pos end place
   pub made-few : {n : ℕ} → Counts out (pos + 1) end n → n < 65536
   made-few c = omega (arith, c .by (g .list) (g .spans), count-few (g .list), g .spans .ends, g .small)
 
-pub made-over : {old new : List ℕ} {pos end kind facts place n z : ℕ} → Counts old (pos + 1) end n → z ≡ end - pos → Recorded old new pos (madeHead kind facts place) n z → MadeOver old new pos end kind facts place
+pub made-over : {old new : List ℕ} {pos end kind facts : ℕ} {place : Place} {n z : ℕ} → Counts old (pos + 1) end n → z ≡ end - pos → Recorded old new pos (madeHead kind facts place) n z → MadeOver old new pos end kind facts place
 made-over {old} {new} {pos} c ez r = record {
-  by = λ ts d. recorded-node ts (agree-all old (start pos)) d r (c .by ts d) (omega (arith, d .ends));
+  by = λ ts d. recorded-node ts (before-all old pos) d r (c .by ts d) (omega (arith, d .ends));
   above = r .above;
 }
 
-module _ {old new : List ℕ} {pos end place facts : ℕ} (f : FlagOf old (pos + 1) end facts) where
+module _ {old new : List ℕ} {pos end facts : ℕ} {place : Place} (f : FlagOf old (pos + 1) end facts) where
   pub makes-sequence : MadeOver old new pos end kind.sequence facts place → Makes makeSequence old new pos end place
   unfolding makeSequence
   makes-sequence m = record { by = λ ts d. wrote-as (m .by ts d) (ap (λ (x : ℕ). made kind.sequence x place ts ∷ []) (f .by ts d)); above = m .above }
@@ -73,6 +72,6 @@ module _ {old new : List ℕ} {pos end place facts : ℕ} (f : FlagOf old (pos +
   unfolding makeObject
   makes-object m = record { by = λ ts d. wrote-as (m .by ts d) (ap (λ (x : ℕ). made kind.object x place ts ∷ []) (f .by ts d)); above = m .above }
 
-pub makes-template : {old new : List ℕ} {pos end place : ℕ} → MadeOver old new pos end kind.template 1 place → Makes makeTemplate old new pos end place
+pub makes-template : {old new : List ℕ} {pos end : ℕ} {place : Place} → MadeOver old new pos end kind.template 1 place → Makes makeTemplate old new pos end place
 unfolding makeTemplate
 makes-template m = record { by = m .by; above = m .above }

@@ -4,9 +4,9 @@ use mathlib.Core.Bool.{Bool, true, false}
 use mathlib.Core.List.{List, [], _∷_, _++_}
 use Prim.Native.Nat.{ℕ, suc, _+_, _-_, _<_, _≤_}
 use native.Mathlib.Omega.{arith}
-use lib.ListN.{length}
 use Rattle.tree.specs.Tree.{Place, Head, Tree, one, forest, records}
-use Rattle.tree.specs.Fields.{start, headAt}
+use Rattle.tree.specs.Room.{recordsIn}
+use Rattle.tree.specs.Fields.{headAt}
 use Rattle.tree.specs.Stands.{Stands}
 use Rattle.rules.specs.Lists.{keepIf}
 use Rattle.rules.specs.Facts.{flagged}
@@ -14,7 +14,7 @@ use Rattle.rules.specs.Made.{placeOf, madeHead, flagOf, makeArray}
 use Rattle.rules.specs.Reduce.{flush}
 use Rattle.readings.specs.Node.{Node, Tells}
 use Rattle.tree.specs.Kind as kind
-use Rattle.output.specs.Bytes.{Agree, Kept, Recorded, agree-all, agree-less}
+use Rattle.output.specs.Records.{Before, Behind, Recorded, before-all, before-less, behind-all, behind-more}
 use Rattle.output.specs.Trees.{Spans, Wrote, CopiedTree, wrote-none, wrote-as, spans-agree, spans-append, recorded-node}
 use Rattle.rewrite.specs.Made.{GivenMade, Makes}
 
@@ -42,39 +42,38 @@ waits-none out slot = record { stands = tt; ends = omega arith }
 pub waits-after : {out : List ℕ} {slot next : ℕ} {w : List Tree} → Waits out slot next w → slot ≤ next
 waits-after x = omega (arith, x .ends)
 
-pub waits-agree : {old new : List ℕ} {slot next : ℕ} {w : List Tree} → Waits old slot next w → Agree old new (start next) → Waits new slot next w
+pub waits-agree : {old new : List ℕ} {slot next : ℕ} {w : List Tree} → Waits old slot next w → Before old new next → Waits new slot next w
 waits-agree {old} {new} {slot} {next} {w} x a = go w x
   where
     go : (w : List Tree) → Waits old slot next w → Waits new slot next w
     go [] x = record { stands = tt; ends = x .ends }
     go (t ∷ w) x = record { stands = spans-agree (waits-spans x) a (omega arith) .stands; ends = x .ends }
 
-pub record GivenWaiting (out : List ℕ) (slot next place : ℕ) : Type 0 where
+pub record GivenWaiting (out : List ℕ) (slot next : ℕ) : Type 0 where
   pub list : List Tree
   pub waits : Waits out slot next list
-  pub inside : start next ≤ length out
+  pub inside : next ≤ recordsIn out
   pub small : next < slot + 65536
-  pub place-small : place < 4294967296
 
 -- Whatever trees waited, the tree at record `at` of s waits behind them, to record r.
 pub record Held (s : List ℕ) (at size : ℕ) (old new : List ℕ) (slot next r : ℕ) : Type 0 where
   pub by : (t : Tree) → Stands s at (one t) → size ≡ suc (records (t .kids)) → (w : List Tree) → Waits old slot next w → Waits new slot r (w ++ (t ∷ []))
-  pub frame : Agree old new (start next)
+  pub frame : Before old new next
   pub few : r ≤ next + 1 + size
 
 -- Whatever trees waited, the node that is made of them was written; all from record next on is as it was.
-pub record Flushed (make : Place → List Tree → Tree) (old new : List ℕ) (slot next place : ℕ) : Type 0 where
+pub record Flushed (make : Place → List Tree → Tree) (old new : List ℕ) (slot next : ℕ) (place : Place) : Type 0 where
   pub by : (w : List Tree) → Waits old slot next w → Wrote old new slot next (flush make place w)
-  pub above : Kept old new (start next)
+  pub above : Behind old new next
 
 pub hold-first : {s : List ℕ} {at size : ℕ} {old new : List ℕ} {slot next r : ℕ} → slot ≡ next → CopiedTree s at size old new (next + 1) r → Held s at size old new slot next r
 hold-first {s} {at} {size} {old} {new} {slot} {next} {r} e c = record {
   by = λ t d z w x. go t d z w x;
-  frame = agree-less (start next) (omega arith) frame;
+  frame = before-less next (omega arith) frame;
   few = omega (arith, c .ends);
 }
   where
-    frame : Agree old new (start (next + 1))
+    frame : Before old new (next + 1)
     frame = c .frame
 
     go : (t : Tree) → Stands s at (one t) → size ≡ suc (records (t .kids)) → (w : List Tree) → Waits old slot next w → Waits new slot r (w ++ (t ∷ []))
@@ -92,23 +91,23 @@ hold-more {s} {at} {size} {old} {new} {slot} {next} {r} n c = record {
     go t d z [] x = absurd (n (omega (arith, x .ends)))
     go t d z (y ∷ w) x = spans-waits (y ∷ w) t (spans-append (y ∷ w) (t ∷ []) (spans-agree (waits-spans x) (c .frame) (omega arith)) (c .by t d z .spans))
 
-module _ (make : Place → List Tree → Tree) {old : List ℕ} {slot next place : ℕ} where
+pub waiting-given : {old : List ℕ} {slot next : ℕ} → GivenWaiting old slot next → slot < next → GivenMade old slot next
+waiting-given {old} {slot} {next} g l = go (g .list) (g .waits)
+  where
+    go : (w : List Tree) → Waits old slot next w → GivenMade old slot next
+    go [] x = absurd (omega (arith, x .ends))
+    go (t ∷ w) x = record { list = t ∷ w; spans = waits-spans x; inside = g .inside; small = g .small }
+
+module _ (make : Place → List Tree → Tree) {old : List ℕ} {slot next : ℕ} {place : Place} where
   pub flushed-none : next ≤ slot → Flushed make old old slot next place
-  flushed-none l = record { by = λ w x. go w x; above = record { same = λ k h. refl } }
+  flushed-none l = record { by = λ w x. go w x; above = behind-all old next }
     where
       go : (w : List Tree) → Waits old slot next w → Wrote old old slot next (flush make place w)
-      go [] x = let e : next ≡ slot = omega (arith, x .ends) in rw e (wrote-none (agree-all old (start slot)))
+      go [] x = let e : next ≡ slot = omega (arith, x .ends) in rw e (wrote-none (before-all old slot))
       go (t ∷ w) x = absurd (omega (arith, x .ends))
 
-  pub waiting-given : GivenWaiting old slot next place → slot < next → GivenMade old slot next place
-  waiting-given g l = go (g .list) (g .waits)
-    where
-      go : (w : List Tree) → Waits old slot next w → GivenMade old slot next place
-      go [] x = absurd (omega (arith, x .ends))
-      go (t ∷ w) x = record { list = t ∷ w; spans = waits-spans x; inside = g .inside; small = g .small; place-small = g .place-small }
-
   pub flushed-made : slot < next → {new : List ℕ} → Makes make old new slot next place → Flushed make old new slot next place
-  flushed-made l {new} m = record { by = λ w x. go w x; above = record { same = λ k h. m .above .same k (omega arith) } }
+  flushed-made l {new} m = record { by = λ w x. go w x; above = behind-more next (omega arith) (m .above) }
     where
       go : (w : List Tree) → Waits old slot next w → Wrote old new slot next (flush make place w)
       go [] x = absurd (omega (arith, x .ends))
@@ -121,9 +120,9 @@ pub record Wrapped (s : List ℕ) (at size : ℕ) (old new : List ℕ) (pos r : 
 
 module _ {s : List ℕ} {at size : ℕ} {old : List ℕ} {pos : ℕ} {b : Bool} (f : Tells s at flagged b) where
   pub wrapped-gone : b ≡ false → Wrapped s at size old old pos pos
-  wrapped-gone x = record { by = λ t n z. rw (sym (f .by t n) ∙ x) (wrote-none (agree-all old (start pos))); few = omega arith }
+  wrapped-gone x = record { by = λ t n z. rw (sym (f .by t n) ∙ x) (wrote-none (before-all old pos)); few = omega arith }
 
-  pub wrapped-kept : b ≡ true → {mid new : List ℕ} {r place z : ℕ} → CopiedTree s at size old mid (pos + 1) r → place ≡ headAt s at .place → z ≡ size + 1
+  pub wrapped-kept : b ≡ true → {mid new : List ℕ} {r : ℕ} {place : Place} {z : ℕ} → CopiedTree s at size old mid (pos + 1) r → place ≡ headAt s at .place → z ≡ size + 1
       → Recorded mid new pos (madeHead kind.array 1 place) 1 z → Wrapped s at size old new pos r
   unfolding makeArray flagOf
   wrapped-kept x {mid} {new} {r} {place} {z} c ep ez w = record { by = λ t n y. go t n y; few = omega (arith, c .ends) }
@@ -133,5 +132,5 @@ module _ {s : List ℕ} {at size : ℕ} {old : List ℕ} {pos : ℕ} {b : Bool} 
           let a = c .by t (n .stands) y in
           let q : flagged t ≡ true = sym (f .by t n) ∙ x in
           let p : place ≡ t .head .place = ep ∙ ap (λ (h : Head). h .place) (n .stands .0) in
-          wrote-as (recorded-node (t ∷ []) (agree-less (start pos) (omega arith) (a .frame)) (a .spans) w refl (omega arith))
+          wrote-as (recorded-node (t ∷ []) (before-less pos (omega arith) (a .frame)) (a .spans) w refl (omega arith))
           (rw (q, p))

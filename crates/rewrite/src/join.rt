@@ -1,13 +1,15 @@
 // Both sides of a comparison.
+use fields::Place;
 use fields::kind;
+ghost use Rattle.fields.specs.Place.{asPlace};
 ghost use Rattle.rewrite.specs.Becomes.{GivenList, Becomes, joinKeptOf};
 ghost use Rattle.rewrite.specs.Join.{GivenPair, Joins};
 
 // Two trees, behind record pos and at record second: "if a is a sequence, b is appended whole, even a sequence; else a sequence b
 // gets a in front; else the two make a sequence".
-fn join_sequence(out: &mut [u8], pos: usize, second: usize, end: usize, place: usize) -> usize
-    requires { ⌜ GivenPair (now out) pos second end place ⌝ }
-    ensures { λ r. ⌜ Joins (now (out .entry)) (now (out .exit)) pos second end place r ⌝ }
+fn join_sequence(out: &mut [u8], pos: usize, second: usize, end: usize, place: Place) -> usize
+    requires { ⌜ GivenPair (now out) pos second end ⌝ }
+    ensures { λ r. ⌜ Joins (now (out .entry)) (now (out .exit)) pos second end (asPlace place) r ⌝ }
 {
     let first = pos + 1;
     if fields::kind_at(out, first) == kind::SEQUENCE {

@@ -1,15 +1,16 @@
 // Nodes that wait: copied behind a free record, at slot, that is made when they stop waiting. None wait where slot is next.
+use fields::Place;
 use fields::kind;
-ghost use Prim.Native.Nat.{_+_, _*_, _<_, _≤_};
-ghost use lib.ListN.{length};
-ghost use Rattle.tree.specs.Fields.{start};
+ghost use Prim.Native.Nat.{_+_, _<_, _≤_};
+ghost use Rattle.tree.specs.Room.{recordsIn};
+ghost use Rattle.fields.specs.Place.{asPlace};
 ghost use Rattle.rules.specs.Made.{makeTemplate, makeObject};
 ghost use Rattle.readings.specs.Node.{SomeNode};
 ghost use Rattle.rewrite.specs.Waiting.{GivenWaiting, Held, Flushed, Wrapped};
 
 // The tree at record at, of size records, waits too. Returns where what waits ends.
 pub fn hold(src: &[u8], at: usize, size: usize, out: &mut [u8], slot: usize, next: usize) -> usize
-    requires { ⌜ (start (at + size) ≤ length (now src)) × (start (next + 1 + size) ≤ length (now out)) ⌝ }
+    requires { ⌜ (at + size ≤ recordsIn (now src)) × (next + 1 + size ≤ recordsIn (now out)) ⌝ }
     ensures { λ r. ⌜ Held (now (src .entry)) at size (now (out .entry)) (now (out .exit)) slot next r ⌝ }
 {
     if slot == next {
@@ -19,9 +20,9 @@ pub fn hold(src: &[u8], at: usize, size: usize, out: &mut [u8], slot: usize, nex
 }
 
 // "all waiting make a template with text 0", its flag set "on every made template"
-pub fn flush_template(out: &mut [u8], slot: usize, next: usize, place: usize)
-    requires { ⌜ GivenWaiting (now out) slot next place ⌝ }
-    ensures { λ _. ⌜ Flushed makeTemplate (now (out .entry)) (now (out .exit)) slot next place ⌝ }
+pub fn flush_template(out: &mut [u8], slot: usize, next: usize, place: Place)
+    requires { ⌜ GivenWaiting (now out) slot next ⌝ }
+    ensures { λ _. ⌜ Flushed makeTemplate (now (out .entry)) (now (out .exit)) slot next (asPlace place) ⌝ }
 {
     if slot < next {
         crate::made::make_over(out, slot, next, kind::TEMPLATE as u8, 1, place);
@@ -29,9 +30,9 @@ pub fn flush_template(out: &mut [u8], slot: usize, next: usize, place: usize)
 }
 
 // "the next property makes them an object"
-pub fn flush_object(out: &mut [u8], slot: usize, next: usize, place: usize)
-    requires { ⌜ GivenWaiting (now out) slot next place ⌝ }
-    ensures { λ _. ⌜ Flushed makeObject (now (out .entry)) (now (out .exit)) slot next place ⌝ }
+pub fn flush_object(out: &mut [u8], slot: usize, next: usize, place: Place)
+    requires { ⌜ GivenWaiting (now out) slot next ⌝ }
+    ensures { λ _. ⌜ Flushed makeObject (now (out .entry)) (now (out .exit)) slot next (asPlace place) ⌝ }
 {
     if slot < next {
         let facts = crate::made::flag_of(out, slot + 1, next);
@@ -41,7 +42,7 @@ pub fn flush_object(out: &mut [u8], slot: usize, next: usize, place: usize)
 
 // "a spread first wrapped in an array at the spread's place": one that is flagged stays in it, and another goes.
 pub fn wrap_spread(src: &[u8], at: usize, size: usize, out: &mut [u8], pos: usize) -> usize
-    requires { ⌜ SomeNode (now src) at × (start (at + size) ≤ length (now src)) × (start (pos + 1 + size) ≤ length (now out)) × (1 ≤ size) × (size < 65535) ⌝ }
+    requires { ⌜ SomeNode (now src) at × (at + size ≤ recordsIn (now src)) × (pos + 1 + size ≤ recordsIn (now out)) × (1 ≤ size) × (size < 65535) ⌝ }
     ensures { λ r. ⌜ Wrapped (now (src .entry)) at size (now (out .entry)) (now (out .exit)) pos r ⌝ }
 {
     if readings::flagged_at(src, at) {

@@ -22,7 +22,7 @@ Evaluated = Paired Evaluation
 
 -- "An effect is place × 512 + kind × 2 + 1 if a coercion; a coercion has the place and kind of the node coerced."
 unfoldable pub itself : Tree → ℕ
-itself t = t .head .place * 512 + t .head .kind * 2
+itself t = t .head .place .start * 512 + t .head .kind * 2
 
 unfoldable pub coercionNumber : Tree → ℕ
 coercionNumber t = itself t + 1

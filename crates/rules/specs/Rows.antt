@@ -3,7 +3,7 @@
 use mathlib.Core.List.{List, [], _∷_, map}
 use mathlib.Core.Path.{_≡_, refl}
 use Prim.Native.Nat.{ℕ, _+_, _*_}
-use Rattle.tree.specs.Tree.{Tree, forest, size, records}
+use Rattle.tree.specs.Tree.{Head, Tree, forest, size, records}
 use Rattle.tree.specs.Tree as tree
 use Rattle.tree.specs.Kind as kind
 use Rattle.rules.specs.Settings.{Settings}
@@ -24,7 +24,8 @@ settings = record { byte = 0 }
 -- A node of a kind, with facts, sub, text and place, over its children.
 abbrev node : ℕ → ℕ → ℕ → ℕ → ℕ → List Tree → Tree
 node kind facts sub text place ts =
-    record { head = record { kind = kind; facts = facts; sub = sub; reserved = 0; text = text; place = place }; kids = forest ts }
+    let head : Head = record { kind = kind; facts = facts; sub = sub; reserved = 0; text = text; place = record { start = place } } in
+    record { head = head; kids = forest ts }
 
 -- An identifier that nothing is known of, and a call of one; a number; a spread of x.
 abbrev identifier : ℕ → Tree

@@ -7,7 +7,7 @@ use Rattle.tree.specs.Tree.{one}
 use Rattle.tree.specs.Fields.{subtreeAt}
 use Rattle.tree.specs.Refusal.{listEffectsLimits, treeOf}
 use Rattle.tree.specs.Encoding.{Bytes}
-use Rattle.tree.specs.Accepted.{passed, counted-parts, accepted}
+use Rattle.tree.specs.Accepted.{passed, counted-parts, counted-room, accepted}
 use Rattle.tree.specs.Walk.{Held, held-within, held-after}
 use Rattle.file.specs.Answer.{stated, verdict, verdict-accepted}
 use Rattle.file.specs.declared.Checked.the-variants.{Accepted}
@@ -20,7 +20,7 @@ file-held s settings n e bs =
     let held : Held s 0 n = record {
       forest = one (treeOf s);
       holds = record { stands = a .stands; sized = omega (arith, v .2, a .sized) };
-      inside = omega (arith, v .2, k .long);
+      inside = omega (arith, v .2, counted-room k);
     } in
     (held, omega (arith, v .2, k .few))
 

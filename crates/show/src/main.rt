@@ -6,8 +6,7 @@ mod words;
 use file::Checked;
 use libc::STDIN_FILENO;
 ghost use Prim.Native.Nat.{_+_, _<_, _≤_};
-ghost use lib.ListN.{length};
-ghost use Rattle.tree.specs.Fields.{start};
+ghost use Rattle.tree.specs.Room.{recordsIn};
 ghost use Rattle.tree.specs.Walk.{Held};
 
 fn main() {
@@ -46,7 +45,7 @@ fn print_trees(src: &[u8], at: usize, size: usize, level: usize)
 }
 
 fn print_record(src: &[u8], i: usize, level: usize)
-    requires { ⌜ start (i + 1) ≤ length (now src) ⌝ }
+    requires { ⌜ i + 1 ≤ recordsIn (now src) ⌝ }
 {
     let kind = fields::kind_at(src, i);
     print_indent(level);
@@ -54,7 +53,8 @@ fn print_record(src: &[u8], i: usize, level: usize)
     words::put_sub(kind, fields::sub_at(src, i));
     words::put_facts(fields::facts_at(src, i));
     words::put_number(b" text ", fields::text_at(src, i) as u64);
-    words::put_number(b" place ", fields::place_at(src, i) as u64);
+    let place = fields::place_at(src, i);
+    words::put_number(b" place ", place.start as u64);
     words::put(b"\n");
 }
 

@@ -4,7 +4,7 @@
 use mathlib.Core.Path.{_≡_, refl, sym, ap, ap₂, subst, _∙_}
 use mathlib.Core.Bool.{Bool, true, false, _&&_}
 use mathlib.Core.List.{List, [], _∷_, _++_, append-nil}
-use Prim.Native.Nat.{ℕ, suc, _+_, _*_, _<_, _≤_}
+use Prim.Native.Nat.{ℕ, suc, _+_, _<_, _≤_}
 use native.Mathlib.Omega.{arith}
 use lib.Dec.{eqb, leb}
 use lib.ListN.{length, getD, drop, drop-of-length-le}
@@ -15,10 +15,12 @@ use Rattle.tree.specs.Below.{allBelow, and-both, and-left, and-right, al
 use Rattle.tree.specs.Record.{recordOk, included}
 use Rattle.tree.specs.Children.{nodeOk, formed, wellFormed}
 use Rattle.tree.specs.File.{preorder, le16, bytes, header, fileBytes, allEncodable}
-use Rattle.tree.specs.Fields.{versionOf, settingsOf, countOf, start, headAt, subtreeAt}
+use Rattle.tree.specs.Fields.{versionOf, settingsOf, countOf, headAt, subtreeAt}
+use Rattle.tree.specs.Layout.{headerBytes, start}
+use Rattle.tree.specs.Room.{recordsIn, start-first, start-le, has-room}
 use Rattle.tree.specs.Refusal.{Limits, markOk, versionOk, settingsOk, countOk, recordsOk, allIncluded, shapeAt, shapeOk, decode, treeOf, depthOk, unless, refusal}
 use Rattle.tree.specs.Stands.{Stands, Tested, decoded-root, decode-stands, tested-of}
-use Rattle.tree.specs.Encoding.{Bytes, length-bytes, drop-next, drop-u16, bytes-stand, encodable-stand, stand-bytes, file-bytes}
+use Rattle.tree.specs.Encoding.{Bytes, length-file, drop-next, drop-u16, bytes-stand, encodable-stand, stand-bytes, file-bytes}
 use Rattle.tree.specs.Kind as kind
 
 -- No refusal: each test holds.
@@ -77,20 +79,24 @@ unrefused limits s p =
 pub record Counted (maxRecords : ℕ) (s : List ℕ) : Type 0 where
   pub some : 1 ≤ countOf s
   pub few : countOf s ≤ maxRecords
-  pub long : length s ≡ 8 + 16 * countOf s
+  pub long : length s ≡ start (countOf s)
 
 pub counted-parts : (maxRecords : ℕ) (s : List ℕ) → countOk maxRecords s ≡ true → Counted maxRecords s
 unfolding countOk
 counted-parts maxRecords s w =
     let some = leb 1 (countOf s) in
     let few = leb (countOf s) maxRecords in
-    let long = eqb (length s) (8 + 16 * countOf s) in
+    let long = eqb (length s) (start (countOf s)) in
     let a = and-left (some && few) long w in
     record {
       some = leb-true 1 (countOf s) (and-left some few a);
       few = leb-true (countOf s) maxRecords (and-right some few a);
-      long = eqb-true (length s) (8 + 16 * countOf s) (and-right (some && few) long w);
+      long = eqb-true (length s) (start (countOf s)) (and-right (some && few) long w);
     }
+
+-- So all records are within the bytes.
+pub counted-room : {maxRecords : ℕ} {s : List ℕ} → Counted maxRecords s → countOf s ≤ recordsIn s
+counted-room {s = s} k = has-room (length s) (countOf s) (omega (arith, k .long))
 
 -- The tests of the tree's shape, taken apart.
 record Shaped (s : List ℕ) : Type 0 where
@@ -157,11 +163,19 @@ marked-parts s w =
       t = eqb-true (getD s 2 0) 84 (and-right x t b);
     }
 
-pub mark-long : (s : List ℕ) → markOk s ≡ true → 8 ≤ length s
+pub mark-long : (s : List ℕ) → markOk s ≡ true → headerBytes ≤ length s
 mark-long s w = marked-parts s w .long
 
--- A file's first eight bytes are its header.
-pub header-is : (s : List ℕ) → Bytes s → markOk s ≡ true → versionOk s ≡ true → s ≡ header (settingsOf s) (countOf s) (drop 8 s)
+-- A mark is copied with its bytes.
+pub mark-copied : (s t : List ℕ) → markOk s ≡ true → headerBytes ≤ length t → ((k : ℕ) → k < 3 → getD t k 0 ≡ getD s k 0) → markOk t ≡ true
+unfolding markOk
+mark-copied s t w l e =
+    let m = marked-parts s w in
+    and-both (le-leb headerBytes (length t) l)
+    (rw (e 0 (omega arith), e 1 (omega arith), e 2 (omega arith), m .u, m .x, m .t))
+
+-- A file's first bytes are its header.
+pub header-is : (s : List ℕ) → Bytes s → markOk s ≡ true → versionOk s ≡ true → s ≡ header (settingsOf s) (countOf s) (drop headerBytes s)
 unfolding versionOk
 header-is s bs w v =
     let m = marked-parts s w in
@@ -195,8 +209,9 @@ accepted limits s bs e =
     let p = passed limits s e in
     let k = counted-parts (limits .records) s (p .counted) in
     let r = rooted s (k .some) (p .recorded) (p .is-included) (p .shape) in
-    let all : drop 8 s ≡ bytes (preorder (one (treeOf s))) ++ drop (start (countOf s)) s =
-    bytes-stand s bs (one (treeOf s)) 0 (countOf s) (r .stands) (omega (arith, k .long, r .sized)) (omega (arith, r .sized)) in
+    let all : drop headerBytes s ≡ bytes (preorder (one (treeOf s))) ++ drop (start (countOf s)) s =
+    ap (λ (p : ℕ). drop p s) (sym start-first)
+    ∙ bytes-stand s bs (one (treeOf s)) 0 (countOf s) (r .stands) (omega (arith, counted-room k, r .sized)) (omega (arith, r .sized)) in
     let end : drop (start (countOf s)) s ≡ [] = (let l : length s ≤ start (countOf s) = omega (arith, k .long) in drop-of-length-le s l) in
     record {
       is-file =
@@ -229,13 +244,13 @@ module _ (settings : ℕ) (t : Tree) where
   unfolding s fileBytes u16At
   count-is = omega arith
 
-  length-is : length s ≡ 8 + 16 * size t
-  unfolding s fileBytes
-  length-is = omega (arith, length-bytes (one t))
+  length-is : length s ≡ start (size t)
+  unfolding s
+  length-is = length-file settings t
 
   stands-is : Stands s 0 (one t)
   unfolding s fileBytes
-  stands-is = stand-bytes s (one t) 0 [] (sym (append-nil (bytes (preorder (one t)))))
+  stands-is = stand-bytes s (one t) 0 [] (rw start-first (sym (append-nil (bytes (preorder (one t))))))
 
   holds-tree : treeOf (fileBytes settings t) ≡ t
   unfolding treeOf s
@@ -251,7 +266,7 @@ module _ (settings : ℕ) (t : Tree) where
 
   mark-is : markOk s ≡ true
   unfolding s markOk fileBytes
-  mark-is = and-both (le-leb 8 (length s) (omega (arith, length-is))) refl
+  mark-is = and-both (le-leb 8 (length s) (omega (arith, length-is, start-first, start-le 0 (size t) (omega arith)))) refl
 
   version-is : versionOk s ≡ true
   unfolding s versionOk fileBytes u16At
@@ -266,7 +281,7 @@ module _ (settings : ℕ) (t : Tree) where
   counted-is maxRecords l =
       let n = count-is in
       and-both (and-both (le-leb 1 (countOf s) (omega (arith, n))) (le-leb (countOf s) maxRecords (omega (arith, n))))
-      (eq-eqb (length s) (8 + 16 * countOf s) (omega (arith, n, length-is)))
+      (eq-eqb (length s) (start (countOf s)) (length-is ∙ ap start (sym n)))
 
   low-is : (maxDepth : ℕ) → depth t ≤ maxDepth → depthOk maxDepth s ≡ true
   unfolding depthOk s
@@ -333,7 +348,7 @@ wider low high r d s e =
       mark = p .mark;
       version = p .version;
       settings = p .settings;
-      counted = and-both (and-both (le-leb 1 (countOf s) (k .some)) (le-leb (countOf s) (high .records) (omega (arith, k .few)))) (eq-eqb (length s) (8 + 16 * countOf s) (k .long));
+      counted = and-both (and-both (le-leb 1 (countOf s) (k .some)) (le-leb (countOf s) (high .records) (omega (arith, k .few)))) (eq-eqb (length s) (start (countOf s)) (k .long));
       recorded = p .recorded;
       is-included = p .is-included;
       shape = p .shape;

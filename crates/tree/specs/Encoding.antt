@@ -11,10 +11,13 @@ use lib.ListN.{length, getD, drop, length-append}
 use lib.Seq.{drop-cons, getD-drop, drop-drop, drop-at}
 use borrow.Author.Tests.{lt-ltb, ltb-true}
 use Rattle.le.specs.Le.{u16At, u32At}
-use Rattle.tree.specs.Tree.{Head, Forest, nil, node, Tree, All, one, count, records, size}
+use Rattle.tree.specs.Tree.{Place, Head, Forest, nil, node, Tree, All, one, count, records, size}
 use Rattle.tree.specs.Below.{and-both, and-left, and-right}
-use Rattle.tree.specs.File.{Rec, preorder, le16, le32, recordBytes, bytes, fileBytes, encodable, allEncodable}
-use Rattle.tree.specs.Fields.{start, headAt, childrenAt, subtreeAt}
+use Rattle.tree.specs.File.{Rec, preorder, le16, le32, placeBytes, recordBytes, bytes, fileBytes, placeFits, encodable, allEncodable}
+use Rattle.tree.specs.Offset as offset
+use Rattle.tree.specs.Layout.{width, span, start}
+use Rattle.tree.specs.Room.{recordsIn, start-first, start-span, record-inside}
+use Rattle.tree.specs.Fields.{placeFrom, headAt, childrenAt, subtreeAt}
 use Rattle.tree.specs.Stands.{Stands}
 
 -- Every element is a byte.
@@ -26,11 +29,17 @@ unfolding bytes
 bytes-append [] b = refl
 bytes-append (r ∷ a) b = ap (recordBytes r) (bytes-append a b)
 
-pub length-bytes : (f : Forest) → length (bytes (preorder f)) ≡ 16 * records f
-unfolding bytes preorder
+length-bytes : (f : Forest) → length (bytes (preorder f)) ≡ span (records f)
+unfolding bytes preorder span width
 length-bytes nil = refl
 length-bytes (node h cs rest) =
     omega (arith, ap length (bytes-append (preorder cs) (preorder rest)), length-append (bytes (preorder cs)) (bytes (preorder rest)), length-bytes cs, length-bytes rest)
+
+pub length-file : (settings : ℕ) (t : Tree) → length (fileBytes settings t) ≡ start (size t)
+unfolding fileBytes
+length-file settings t =
+    let n : records (one t) ≡ size t = omega arith in
+    omega (arith, length-bytes (one t), ap span n, start-span (size t), start-first)
 
 -- From where it stands to its encoding.
 pub drop-next : (s : List ℕ) (p q : ℕ) → p < length s → q ≡ p + 1 → drop p s ≡ getD s p 0 ∷ drop q s
@@ -64,21 +73,28 @@ module _ (s : List ℕ) (bs : Bytes s) where
       drop-u16 p (p + 2) (v % 65536) (omega arith) refl (omega (arith, u16-small p))
       ∙ ap (le16 (v % 65536)) (drop-u16 (p + 2) q (v / 65536) (omega arith) (omega arith) (omega (arith, u16-small p)))
 
-  drop-record : (i : ℕ) (h : Head) (n z : ℕ) → start (i + 1) ≤ length s → headAt s i ≡ h → childrenAt s i ≡ n → subtreeAt s i ≡ z
+  drop-place : (p q : ℕ) → p + 4 ≤ length s → q ≡ p + 4 → drop p s ≡ placeBytes (placeFrom s p) (drop q s)
+  drop-place p q h e = drop-u32 p q (u32At s p) h e refl
+
+  drop-record : (i : ℕ) (h : Head) (n z : ℕ) → i + 1 ≤ recordsIn s → headAt s i ≡ h → childrenAt s i ≡ n → subtreeAt s i ≡ z
       → drop (start i) s ≡ recordBytes (record { head = h; children = n; subtree = z }) (drop (start (i + 1)) s)
+  unfolding start span width
   drop-record i h n z l e a b =
-      subst (λ (x : Head). drop (start i) s ≡ recordBytes (record { head = x; children = n; subtree = z }) (drop (start (i + 1)) s)) e
-      (drop-next s (start i) (start i + 1) (omega arith) refl ∙ ap (λ (r : List ℕ). getD s (start i) 0 ∷ r)
-      (drop-next s (start i + 1) (start i + 2) (omega arith) (omega arith) ∙ ap (λ (r : List ℕ). getD s (start i + 1) 0 ∷ r)
-      (drop-next s (start i + 2) (start i + 3) (omega arith) (omega arith) ∙ ap (λ (r : List ℕ). getD s (start i + 2) 0 ∷ r)
-      (drop-next s (start i + 3) (start i + 4) (omega arith) (omega arith) ∙ ap (λ (r : List ℕ). getD s (start i + 3) 0 ∷ r)
-      (drop-u16 (start i + 4) (start i + 6) n (omega arith) (omega arith) a ∙ ap (le16 n)
-      (drop-u16 (start i + 6) (start i + 8) z (omega arith) (omega arith) b ∙ ap (le16 z)
-      (drop-u32 (start i + 8) (start i + 12) (u32At s (start i + 8)) (omega arith) (omega arith) refl ∙ ap (le32 (u32At s (start i + 8)))
-      (drop-u32 (start i + 12) (start (i + 1)) (u32At s (start i + 12)) (omega arith) (omega arith) refl))))))))
+      let o : ℕ = start i in
+      let inside : o + width ≤ length s = record-inside (length s) i l in
+      subst (λ (x : Head). drop o s ≡ recordBytes (record { head = x; children = n; subtree = z }) (drop (start (i + 1)) s)) e
+      (ap (λ (p : ℕ). drop p s) (sym (add-zero o))
+      ∙ drop-next s (o + offset.kind) (o + offset.facts) (omega arith) (omega arith) ∙ ap (λ (r : List ℕ). headAt s i .kind ∷ r)
+      (drop-next s (o + offset.facts) (o + offset.sub) (omega arith) (omega arith) ∙ ap (λ (r : List ℕ). headAt s i .facts ∷ r)
+      (drop-next s (o + offset.sub) (o + offset.reserved) (omega arith) (omega arith) ∙ ap (λ (r : List ℕ). headAt s i .sub ∷ r)
+      (drop-next s (o + offset.reserved) (o + offset.children) (omega arith) (omega arith) ∙ ap (λ (r : List ℕ). headAt s i .reserved ∷ r)
+      (drop-u16 (o + offset.children) (o + offset.subtree) n (omega arith) (omega arith) a ∙ ap (le16 n)
+      (drop-u16 (o + offset.subtree) (o + offset.text) z (omega arith) (omega arith) b ∙ ap (le16 z)
+      (drop-u32 (o + offset.text) (o + offset.place) (headAt s i .text) (omega arith) (omega arith) refl ∙ ap (le32 (headAt s i .text))
+      (drop-place (o + offset.place) (start (i + 1)) (omega arith) (omega arith)))))))))
 
   -- The bytes from where a list stands are its encoding, and then what follows it.
-  pub bytes-stand : (f : Forest) (i j : ℕ) → Stands s i f → start (i + records f) ≤ length s → j ≡ i + records f
+  pub bytes-stand : (f : Forest) (i j : ℕ) → Stands s i f → i + records f ≤ recordsIn s → j ≡ i + records f
       → drop (start i) s ≡ bytes (preorder f) ++ drop (start j) s
   unfolding bytes preorder
   bytes-stand nil i j d l e = let x : i ≡ j = omega arith in ap (λ (k : ℕ). drop (start k) s) x
@@ -92,13 +108,16 @@ module _ (s : List ℕ) (bs : Bytes s) where
 
   -- The heads of what stands in bytes fit their bytes.
   pub encodable-stand : (f : Forest) (i : ℕ) → Stands s i f → allEncodable f ≡ true
-  unfolding allEncodable encodable
+  unfolding allEncodable encodable placeFits
   encodable-stand nil i d = refl
   encodable-stand (node h cs rest) i d =
       and-both (subst (λ (x : Head). encodable x ≡ true) (d .0)
-      (and-both (and-both (lt-ltb _ 256 (bs .small (start i))) (and-both (lt-ltb _ 256 (bs .small (start i + 1))) (and-both (lt-ltb _ 256 (bs .small (start i + 2))) (lt-ltb _ 256 (bs .small (start i + 3))))))
-      (and-both (lt-ltb _ (2 ^ 32) (u32-small (start i + 8))) (lt-ltb _ (2 ^ 32) (u32-small (start i + 12))))))
+      (and-both (and-both (small offset.kind) (and-both (small offset.facts) (and-both (small offset.sub) (small offset.reserved))))
+      (and-both (lt-ltb _ (2 ^ 32) (u32-small (start i + offset.text))) (lt-ltb _ (2 ^ 32) (u32-small (start i + offset.place))))))
       (and-both (encodable-stand cs (i + 1) (d .3)) (encodable-stand rest (i + suc (records cs)) (d .4)))
+    where
+      small : (k : ℕ) → ltb (getD s (start i + k) 0) 256 ≡ true
+      small k = lt-ltb (getD s (start i + k) 0) 256 (bs .small (start i + k))
 
 -- From its encoding to where it stands.
 at-drop : (s : List ℕ) (b j : ℕ) (l : List ℕ) → drop b s ≡ l → getD s (b + j) 0 ≡ getD l j 0
@@ -121,28 +140,27 @@ module _ (s : List ℕ) where
   unfolding u16At u32At
   read-head i r l e =
       let b : ℕ = start i in
-      let k : getD s b 0 ≡ r .head .kind = sym (ap (λ (x : ℕ). getD s x 0) (add-zero b)) ∙ at-drop s b 0 (recordBytes r l) e in
-      let t : u32At s (b + 8) ≡ r .head .text = u32-drop s b 8 (recordBytes r l) e ∙ omega arith in
-      let p : u32At s (b + 12) ≡ r .head .place = u32-drop s b 12 (recordBytes r l) e ∙ omega arith in
+      let t : u32At s (b + offset.text) ≡ r .head .text = u32-drop s b offset.text (recordBytes r l) e ∙ omega arith in
+      let p : u32At s (b + offset.place) ≡ r .head .place .start = u32-drop s b offset.place (recordBytes r l) e ∙ omega arith in
       λ m. record {
-        kind = k m;
-        facts = at-drop s b 1 (recordBytes r l) e m;
-        sub = at-drop s b 2 (recordBytes r l) e m;
-        reserved = at-drop s b 3 (recordBytes r l) e m;
+        kind = at-drop s b offset.kind (recordBytes r l) e m;
+        facts = at-drop s b offset.facts (recordBytes r l) e m;
+        sub = at-drop s b offset.sub (recordBytes r l) e m;
+        reserved = at-drop s b offset.reserved (recordBytes r l) e m;
         text = t m;
-        place = p m;
+        place = record { start = p m };
       }
 
   read-children : (i : ℕ) (r : Rec) (l : List ℕ) → drop (start i) s ≡ recordBytes r l → childrenAt s i ≡ r .children
   unfolding u16At
-  read-children i r l e = u16-drop s (start i) 4 (recordBytes r l) e ∙ omega arith
+  read-children i r l e = u16-drop s (start i) offset.children (recordBytes r l) e ∙ omega arith
 
   read-subtree : (i : ℕ) (r : Rec) (l : List ℕ) → drop (start i) s ≡ recordBytes r l → subtreeAt s i ≡ r .subtree
   unfolding u16At
-  read-subtree i r l e = u16-drop s (start i) 6 (recordBytes r l) e ∙ omega arith
+  read-subtree i r l e = u16-drop s (start i) offset.subtree (recordBytes r l) e ∙ omega arith
 
   pub stand-bytes : (f : Forest) (i : ℕ) (l : List ℕ) → drop (start i) s ≡ bytes (preorder f) ++ l → Stands s i f
-  unfolding bytes preorder
+  unfolding bytes preorder start span width
   stand-bytes nil i l e = tt
   stand-bytes (node h cs rest) i l e =
       let r : Rec = record { head = h; children = count cs; subtree = suc (records cs) } in
@@ -151,8 +169,8 @@ module _ (s : List ℕ) where
       let next : drop (start (i + 1)) s ≡ bytes (preorder cs) ++ (bytes (preorder rest) ++ l) =
       (let x : start (i + 1) ≡ start i + 16 = omega arith in rw x (sym (drop-drop 16 (start i) s) ∙ ap (drop 16) e ∙ under)) in
       let after : drop (start (i + suc (records cs))) s ≡ bytes (preorder rest) ++ l =
-      (let x : start (i + suc (records cs)) ≡ start (i + 1) + 16 * records cs = omega arith in
-      rw x (sym (drop-drop (16 * records cs) (start (i + 1)) s) ∙ ap (drop (16 * records cs)) next ∙ drop-at (bytes (preorder cs)) (bytes (preorder rest) ++ l) (16 * records cs) (length-bytes cs))) in (
+      (let x : start (i + suc (records cs)) ≡ start (i + 1) + span (records cs) = omega arith in
+      rw x (sym (drop-drop (span (records cs)) (start (i + 1)) s) ∙ ap (drop (span (records cs))) next ∙ drop-at (bytes (preorder cs)) (bytes (preorder rest) ++ l) (span (records cs)) (length-bytes cs))) in (
         read-head i r (bytes (preorder cs ++ preorder rest) ++ l) e,
         read-children i r (bytes (preorder cs ++ preorder rest) ++ l) e,
         read-subtree i r (bytes (preorder cs ++ preorder rest) ++ l) e,
@@ -179,6 +197,17 @@ small-le16 n l h p = (omega arith, (omega arith, p))
 small-le32 : (n : ℕ) (l : List ℕ) → n < 2 ^ 32 → Small l → Small (le32 n l)
 small-le32 n l h p = small-le16 (n % 65536) (le16 (n / 65536) l) (omega arith) (small-le16 (n / 65536) l (omega arith) p)
 
+small-place : (p : Place) (l : List ℕ) → placeFits p ≡ true → Small l → Small (placeBytes p l)
+unfolding placeFits
+small-place p l f q = small-le32 (p .start) l (ltb-true (p .start) (2 ^ 32) f) q
+
+-- A place that was given to a head fits the bytes of another.
+pub place-fits : (h : Head) → encodable h ≡ true → placeFits (h .place) ≡ true
+unfolding encodable
+place-fits h e =
+    and-right (ltb (h .text) (2 ^ 32)) (placeFits (h .place))
+    (and-right (ltb (h .kind) 256 && (ltb (h .facts) 256 && (ltb (h .sub) 256 && ltb (h .reserved) 256))) (ltb (h .text) (2 ^ 32) && placeFits (h .place)) e)
+
 small-record : (r : Rec) (l : List ℕ) → encodable (r .head) ≡ true → r .children < 65536 → r .subtree < 65536 → Small l → Small (recordBytes r l)
 unfolding encodable
 small-record r l e c z p =
@@ -188,7 +217,7 @@ small-record r l e c z p =
     let b = ltb (h .sub) 256 in
     let d = ltb (h .reserved) 256 in
     let t = ltb (h .text) (2 ^ 32) in
-    let q = ltb (h .place) (2 ^ 32) in
+    let q = placeFits (h .place) in
     let low = and-left (k && (f && (b && d))) (t && q) e in
     let high = and-right (k && (f && (b && d))) (t && q) e in
     let low′ = and-right k (f && (b && d)) low in
@@ -200,10 +229,10 @@ small-record r l e c z p =
           ltb-true (h .sub) 256 (and-left b d low″),
           (
             ltb-true (h .reserved) 256 (and-right b d low″),
-            small-le16 (r .children) (le16 (r .subtree) (le32 (h .text) (le32 (h .place) l))) c
-                (small-le16 (r .subtree) (le32 (h .text) (le32 (h .place) l)) z
-                (small-le32 (h .text) (le32 (h .place) l) (ltb-true (h .text) (2 ^ 32) (and-left t q high))
-                (small-le32 (h .place) l (ltb-true (h .place) (2 ^ 32) (and-right t q high)) p))),
+            small-le16 (r .children) (le16 (r .subtree) (le32 (h .text) (placeBytes (h .place) l))) c
+                (small-le16 (r .subtree) (le32 (h .text) (placeBytes (h .place) l)) z
+                (small-le32 (h .text) (placeBytes (h .place) l) (ltb-true (h .text) (2 ^ 32) (and-left t q high))
+                (small-place (h .place) l (place-fits h e) p))),
           ),
         ),
       ),

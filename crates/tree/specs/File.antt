@@ -4,7 +4,7 @@ use mathlib.Core.Bool.{Bool, true, _&&_}
 use mathlib.Core.List.{List, [], _∷_, _++_}
 use Prim.Native.Nat.{ℕ, suc, _/_, _%_, _^_}
 use lib.Dec.{ltb}
-use Rattle.tree.specs.Tree.{Head, Forest, nil, node, Tree, one, count, records, size}
+use Rattle.tree.specs.Tree.{Place, Head, Forest, nil, node, Tree, one, count, records, size}
 
 -- One record: a head, "4–5 children, 6–7 records in the subtree with itself".
 pub record Rec : Type 0 where
@@ -25,11 +25,15 @@ le16 n then = n % 256 ∷ n / 256 ∷ then
 abbrev pub le32 : ℕ → List ℕ → List ℕ
 le32 n then = le16 (n % 65536) (le16 (n / 65536) then)
 
+-- "12–15 place"
+abbrev pub placeBytes : Place → List ℕ → List ℕ
+placeBytes p then = le32 (p .start) then
+
 -- "byte 0 kind, 1 facts, 2 sub, 3 zero, 4–5 children, 6–7 records in the subtree with itself, 8–11 text, 12–15 place"
 abbrev pub recordBytes : Rec → List ℕ → List ℕ
 recordBytes r then =
     r .head .kind ∷ r .head .facts ∷ r .head .sub ∷ r .head .reserved
-    ∷ le16 (r .children) (le16 (r .subtree) (le32 (r .head .text) (le32 (r .head .place) then)))
+    ∷ le16 (r .children) (le16 (r .subtree) (le32 (r .head .text) (placeBytes (r .head .place) then)))
 
 unfoldable pub bytes : List Rec → List ℕ
 bytes [] = []
@@ -42,11 +46,14 @@ header settings n then = 85 ∷ 88 ∷ 84 ∷ le16 1 (settings ∷ le16 n then)
 unfoldable pub fileBytes : ℕ → Tree → List ℕ
 fileBytes settings t = header settings (size t) (bytes (preorder (one t)))
 
--- A head whose fields fit their bytes.
+-- A place that fits its bytes, and a head whose fields all do.
+unfoldable pub placeFits : Place → Bool
+placeFits p = ltb (p .start) (2 ^ 32)
+
 unfoldable pub encodable : Head → Bool
 encodable h =
     (ltb (h .kind) 256 && (ltb (h .facts) 256 && (ltb (h .sub) 256 && ltb (h .reserved) 256)))
-    && (ltb (h .text) (2 ^ 32) && ltb (h .place) (2 ^ 32))
+    && (ltb (h .text) (2 ^ 32) && placeFits (h .place))
 
 unfoldable pub allEncodable : Forest → Bool
 allEncodable nil = true

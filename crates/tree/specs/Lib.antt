@@ -1,9 +1,13 @@
 pub mod Tree
+pub mod Heads
 pub mod Kind
 pub mod Below
 pub mod Record
 pub mod Children
 pub mod File
+pub mod Offset
+pub mod Layout
+pub mod Room
 pub mod Fields
 pub mod Refusal
 pub mod Stands

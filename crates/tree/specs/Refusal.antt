@@ -1,13 +1,14 @@
 -- Refusals 1 to 8 of a list of bytes, in 01's order: each number is tested over all records before the next.
 use mathlib.Core.Bool.{Bool, true, false, cond, _&&_}
 use mathlib.Core.List.{List}
-use Prim.Native.Nat.{ℕ, zero, suc, _+_, _*_}
+use Prim.Native.Nat.{ℕ, zero, suc, _+_}
 use lib.Dec.{eqb, leb, ltb}
 use lib.ListN.{length, getD}
 use Rattle.tree.specs.Tree.{Head, Forest, nil, node, Tree, depth}
 use Rattle.tree.specs.Below.{allBelow}
 use Rattle.tree.specs.Record.{recordOk, included}
 use Rattle.tree.specs.Children.{childCountOk, mayStand}
+use Rattle.tree.specs.Layout.{start}
 use Rattle.tree.specs.Fields.{versionOf, settingsOf, countOf, headAt, childrenAt, subtreeAt}
 use Rattle.tree.specs.Kind as kind
 
@@ -36,9 +37,9 @@ versionOk s = eqb (versionOf s) 1
 unfoldable pub settingsOk : List ℕ → Bool
 settingsOk s = ltb (settingsOf s) 8
 
--- "4 count not 1–2,000, or length not 8 + 16 × N"; 2,000 is Reduce's limit
+-- "4 count not 1–2,000, or length not 8 + 16 × N", which is where record N would start; 2,000 is Reduce's limit
 unfoldable pub countOk : ℕ → List ℕ → Bool
-countOk maxRecords s = (leb 1 (countOf s) && leb (countOf s) maxRecords) && eqb (length s) (8 + 16 * countOf s)
+countOk maxRecords s = (leb 1 (countOf s) && leb (countOf s) maxRecords) && eqb (length s) (start (countOf s))
 
 -- "5 kind, facts, sub or byte 3"
 unfoldable pub recordsOk : List ℕ → Bool

@@ -3,9 +3,9 @@ use mathlib.Core.Path.{_≡_, refl, _∙_, ap}
 use mathlib.Core.List.{List, [], _∷_, map}
 use Prim.Native.Nat.{ℕ, suc, _+_, max}
 
--- "place is the span's start"
-abbrev pub Place : Type 0
-Place = ℕ
+-- What a made node copies from the node that gives it its place: "place is the span's start".
+pub record Place : Type 0 where
+  pub start : ℕ
 
 -- What a record says of its node, but for "children" and "records in the subtree with itself", which the tree itself says.
 pub record Head : Type 0 where

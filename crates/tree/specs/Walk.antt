@@ -3,9 +3,9 @@ use mathlib.Core.Path.{_≡_}
 use mathlib.Core.List.{List}
 use Prim.Native.Nat.{ℕ, suc, _+_, _-_, _<_, _≤_}
 use native.Mathlib.Omega.{arith}
-use lib.ListN.{length}
 use Rattle.tree.specs.Tree.{Head, Forest, nil, node, records}
-use Rattle.tree.specs.Fields.{start, subtreeAt}
+use Rattle.tree.specs.Room.{recordsIn}
+use Rattle.tree.specs.Fields.{subtreeAt}
 use Rattle.tree.specs.Stands.{Stands}
 
 -- A list of trees stands from record `at` on, in `size` records.
@@ -16,7 +16,7 @@ pub record Holds (s : List ℕ) (at size : ℕ) (f : Forest) : Type 0 where
 pub record Held (s : List ℕ) (at size : ℕ) : Type 0 where
   pub forest : Forest
   pub holds : Holds s at size forest
-  pub inside : start (at + size) ≤ length s
+  pub inside : at + size ≤ recordsIn s
 
 -- The first tree of a list that is not empty: its children, and the trees after it.
 pub record First (s : List ℕ) (p size : ℕ) (h : Head) (cs rest : Forest) : Type 0 where

@@ -10,10 +10,11 @@ use lib.ListN.{length, drop}
 use lib.Seq.{sets-eq}
 use borrow.Author.Tests.{lt-ltb, le-ltb}
 use Rattle.tree.specs.Tree.{Tree, forest, records, size}
+use Rattle.tree.specs.Layout.{headerBytes}
 use Rattle.tree.specs.Fields.{countOf}
 use Rattle.tree.specs.Refusal.{reduceLimits, listEffectsLimits, refusal}
 use Rattle.tree.specs.Encoding.{Bytes}
-use Rattle.tree.specs.Accepted.{passed, counted-parts, accepted, wider}
+use Rattle.tree.specs.Accepted.{passed, counted-parts, mark-long, accepted, wider}
 use Rattle.stated.specs.Stated.{Stated, refused, answered}
 use Rattle.stated.specs.Wrote.{Wrote, wrote-none, wrote-as}
 use Rattle.effects.specs.Answer.{stated, number, effectList, Answers, count-within}
@@ -27,7 +28,7 @@ effectsOf [] = []
 effectsOf (b ∷ bs) = effectList (b ∷ bs)
 
 unfoldable pub recordsOf : List ℕ → ℕ
-recordsOf s = cond (ltb (length s) 8) 0 (countOf s)
+recordsOf s = cond (ltb (length s) headerBytes) 0 (countOf s)
 
 -- Nothing, or a file that List effects accepts with so many entries lent.
 pub record GivenList (s : List ℕ) (room : ℕ) : Type 0 where
@@ -48,14 +49,14 @@ effects-some : (s : List ℕ) → 0 < length s → effectsOf s ≡ effectList s
 effects-some [] l = absurd (omega arith)
 effects-some (b ∷ bs) l = refl
 
-records-some : (s : List ℕ) → 8 ≤ length s → recordsOf s ≡ countOf s
+records-some : (s : List ℕ) → headerBytes ≤ length s → recordsOf s ≡ countOf s
 unfolding recordsOf
-records-some s l = rw (le-ltb (length s) 8 l)
+records-some s l = rw (le-ltb (length s) headerBytes l)
 
 -- The file itself.
 module _ (s : List ℕ) (e : refusal reduceLimits s ≡ 0) where
-  long : 8 ≤ length s
-  long = omega (arith, counted-parts 2000 s (passed reduceLimits s e .counted) .long)
+  long : headerBytes ≤ length s
+  long = mark-long s (passed reduceLimits s e .mark)
 
   pub file-taken : GivenList s 4000
   file-taken = record { taken = λ z. listed s 4000 (wider reduceLimits listEffectsLimits (omega arith) (omega arith) s e) (omega (arith, counted-parts 2000 s (passed reduceLimits s e .counted) .few)) }
@@ -87,7 +88,7 @@ module _ (s : List ℕ) (p : Promised s) where
       go [] x = rw x refl
       go (t ∷ []) x =
           let e = p .kept-file t x .is-listed in
-          effects-some (rewritten s) (omega (arith, counted-parts 3999 (rewritten s) (passed listEffectsLimits (rewritten s) e .counted) .long)) ∙ sym (rw x refl)
+          effects-some (rewritten s) (omega (arith, mark-long (rewritten s) (passed listEffectsLimits (rewritten s) e .mark))) ∙ sym (rw x refl)
       go (t ∷ u ∷ us) x = absurd (omega (arith, p .at-most-one, ap length x))
 
   pub kept-records : Bytes (rewritten s) → recordsOf (rewritten s) ≡ records (forest (left s))
@@ -99,18 +100,18 @@ module _ (s : List ℕ) (p : Promised s) where
       go (t ∷ []) x =
           let k = p .kept-file t x in
           let e = k .is-listed in
-          records-some (rewritten s) (omega (arith, counted-parts 3999 (rewritten s) (passed listEffectsLimits (rewritten s) e .counted) .long))
+          records-some (rewritten s) (mark-long (rewritten s) (passed listEffectsLimits (rewritten s) e .mark))
           ∙ sym (accepted listEffectsLimits (rewritten s) bs e .sized)
           ∙ ap size (k .tree-is)
           ∙ rw x (omega arith)
       go (t ∷ u ∷ us) x = absurd (omega (arith, p .at-most-one, ap length x))
 
 -- What the functions of the table return.
-pub records-none : (s : List ℕ) → length s < 8 → 0 ≡ recordsOf s
+pub records-none : (s : List ℕ) → length s < headerBytes → 0 ≡ recordsOf s
 unfolding recordsOf
-records-none s l = sym (rw (lt-ltb (length s) 8 l) refl)
+records-none s l = sym (rw (lt-ltb (length s) headerBytes l) refl)
 
-pub records-read : (s : List ℕ) {r : ℕ} → 8 ≤ length s → r ≡ countOf s → r ≡ recordsOf s
+pub records-read : (s : List ℕ) {r : ℕ} → headerBytes ≤ length s → r ≡ countOf s → r ≡ recordsOf s
 records-read s l e = e ∙ sym (records-some s l)
 
 effects-none : (s : List ℕ) → length s ≡ 0 → [] ≡ effectsOf s

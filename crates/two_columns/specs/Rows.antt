@@ -9,6 +9,7 @@ use Rattle.tree.specs.Tree as tree
 use Rattle.tree.specs.Below as below
 use Rattle.tree.specs.Record as rec
 use Rattle.tree.specs.Children as children
+use Rattle.tree.specs.Layout as layout
 use Rattle.tree.specs.File as file
 use Rattle.tree.specs.Refusal as refusal
 use Rattle.rules.specs.Settings as Settings
@@ -69,7 +70,7 @@ rows =
 pub rows-hold : map (λ r. columns (r .file)) rows ≡ map (λ r. r .text) rows
 unfolding columns table sideBySide lines line column recordsLine refusedLine decimal digits u16At u32At tree.recur tree.each below.allBelow
     rec.allowedFacts rec.bitsWithin rec.pairsOk rec.literalOk rec.factsOk rec.elementSubOk rec.subOk rec.recordOk rec.included
-    children.childCountOk children.mayStand file.fileBytes file.preorder file.bytes
+    children.childCountOk children.mayStand layout.width layout.span layout.start file.fileBytes file.preorder file.bytes
     refusal.markOk refusal.versionOk refusal.settingsOk refusal.countOk refusal.recordsOk refusal.allIncluded refusal.childrenEnd
     refusal.shapeAt refusal.shapeOk refusal.decode refusal.treeOf refusal.depthOk refusal.refusal
     Settings.annotations Settings.treeShakeOnly Handler.handler Handler.isKind

@@ -2,7 +2,7 @@
 use mathlib.Core.Path.{_≡_, refl, sym, ap, ap₂, _∙_}
 use mathlib.Core.Bool.{false}
 use mathlib.Core.List.{List, [], _∷_, _++_}
-use Prim.Native.Nat.{ℕ, zero, suc, _+_, _*_, _-_, _≤_}
+use Prim.Native.Nat.{ℕ, zero, suc, _+_, _≤_}
 use native.Mathlib.Omega.{arith}
 use lib.Dec.{ltb}
 use lib.ListN.{length, take, drop, replicate, length-append, length-replicate}
@@ -13,25 +13,25 @@ use Rattle.stated.specs.Wrote.{Wrote}
 use Rattle.tree.specs.Fields.{countOf}
 use Rattle.tree.specs.Refusal.{reduceLimits, refusal}
 use Rattle.tree.specs.Accepted.{passed, counted-parts}
-use Rattle.reducer.specs.Answer.{stated, number, numberBy, left, rewritten, statedOf, bytesOf, Promised, Answers}
+use Rattle.reducer.specs.Answer.{leastOutput, mostOutput, most-enough, stated, number, numberBy, left, rewritten, statedOf, bytesOf, Promised, Answers}
 use Rattle.reducer.specs.declared.Reduced.{Reduced}
 use Rattle.reducer.specs.declared.Reduced.the-variants.{Refused, Removable, Kept}
 use Rattle.two_columns.specs.Columns.{columns, columnsBy, table, refusedLine, Printed}
 use Rattle.two_columns.specs.Kept.{GivenTable}
 use Rattle.two_columns.specs.Table.{set-front}
 
-pub lent : length (replicate {A = ℕ} 63992 0) ≡ 63992
-lent = length-replicate {A = ℕ} 63992 0
+pub lent : length (replicate {A = ℕ} mostOutput 0) ≡ mostOutput
+lent = length-replicate {A = ℕ} mostOutput 0
 
 -- As much is lent as Reduce may need, so it never refuses with 9.
-number-is : (s : List ℕ) → number s 63992 ≡ refusal reduceLimits s
+number-is : (s : List ℕ) → number s mostOutput ≡ refusal reduceLimits s
 unfolding number
 number-is s = go (refusal reduceLimits s) refl
   where
-    go : (k : ℕ) → refusal reduceLimits s ≡ k → numberBy k (ltb 63992 (8 + 16 * (2 * countOf s - 1))) ≡ k
+    go : (k : ℕ) → refusal reduceLimits s ≡ k → numberBy k (ltb mostOutput (leastOutput (countOf s))) ≡ k
     go zero e =
-        let enough : ltb 63992 (8 + 16 * (2 * countOf s - 1)) ≡ false =
-        le-ltb 63992 (8 + 16 * (2 * countOf s - 1)) (omega (arith, counted-parts 2000 s (passed reduceLimits s e .counted) .few)) in
+        let enough : ltb mostOutput (leastOutput (countOf s)) ≡ false =
+        le-ltb mostOutput (leastOutput (countOf s)) (most-enough (countOf s) (counted-parts 2000 s (passed reduceLimits s e .counted) .few)) in
         rw enough refl
     go (suc k) e = refl
 
@@ -41,7 +41,7 @@ printed s {old} {new} {l} {r} e w =
     let ends : r ≡ length l = omega (arith, w .0 .ends) in
     record { ends = ends ∙ ap length e; bytes = set-front w ∙ ap (λ (x : List ℕ). x ++ drop (length x) old) e }
 
-module _ {s old new : List ℕ} {reduced : Reduced} (room : length old ≡ 63992) (a : Answers s old new reduced) where
+module _ {s old new : List ℕ} {reduced : Reduced} (room : length old ≡ mostOutput) (a : Answers s old new reduced) where
   number-zero : number s (length old) ≡ refusal reduceLimits s
   number-zero = ap (number s) room ∙ number-is s
 

@@ -9,7 +9,7 @@ ghost use Rattle.two_columns.specs.Columns.{Printed};
 pub fn write_columns(src: &[u8], out: &mut [u8; 384000]) -> usize
     ensures { λ r. ⌜ Printed (now (src .entry)) (now (out .entry)) (now (out .exit)) r ⌝ }
 {
-    let mut kept = [0u8; 63992];
+    let mut kept = [0u8; reducer::MOST_OUTPUT];
     let reduced = reducer::reduce(src, &mut kept);
     match reduced {
         Reduced::Refused(number) => table::write_refusal(number, out),

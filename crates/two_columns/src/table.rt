@@ -50,7 +50,7 @@ fn list_file(file: &[u8], entries: &mut [u64]) -> usize
 fn records(file: &[u8]) -> usize
     ensures { λ r. ⌜ r ≡ recordsOf (now (file .entry)) ⌝ }
 {
-    if file.len() < 8 {
+    if file.len() < fields::HEADER_BYTES {
         return 0;
     }
     le::get16(file, 6)

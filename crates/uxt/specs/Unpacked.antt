@@ -2,17 +2,18 @@
 use mathlib.Core.Path.{_≡_, refl, ap}
 use mathlib.Core.Bool.{Bool, true, false, cond}
 use mathlib.Core.List.{List, [], _∷_}
-use Prim.Native.Nat.{ℕ, zero, suc, _+_, _*_, _/_, _%_, _<_, _≤_}
+use Prim.Native.Nat.{ℕ, zero, suc, _+_, _*_, _-_, _/_, _%_, _<_, _≤_}
 use native.Mathlib.Omega.{arith}
 use lib.Dec.{ltb}
 use lib.ListN.{length}
 use Rattle.stated.specs.Stated.{Stated, refused, answered}
 use Rattle.derived.specs.Bytes.{anyOver}
 use Rattle.derived.specs.Answer.{derivedQuestion, derivedConstructorThisScope, truth}
-use Rattle.tree.specs.Encoding.{Bytes, length-bytes}
+use Rattle.tree.specs.Room.{start-first, start-le}
+use Rattle.tree.specs.Encoding.{Bytes, length-file}
 use Rattle.tree.specs.Fields.{settingsOf, countOf}
 use Rattle.tree.specs.Refusal.{reduceLimits, listEffectsLimits, refusal, treeOf}
-use Rattle.tree.specs.Tree.{Tree, forest, one, records}
+use Rattle.tree.specs.Tree.{Tree, forest, size, records}
 use Rattle.tree.specs.File.{fileBytes}
 use Rattle.tree.specs.Accepted.{accepted}
 use Rattle.rules.specs.Effects.{effects}
@@ -88,8 +89,16 @@ unpackedLength r = readLength (r / 4294967296) (r % 4294967296)
 
 -- A rewritten file has its header at least, and at most 3,999 records.
 rewritten-small : (s : List ℕ) → reduction.Promised s → countOf s ≤ 2000 → (t : Tree) → reduction.left s ≡ t ∷ [] → (0 < length (fileBytes (settingsOf s) t)) × (length (fileBytes (settingsOf s) t) < 4294967296)
-unfolding fileBytes
-rewritten-small s p l t e = omega (arith, length-bytes (one t), p .few, ap (λ (r : List Tree). records (forest r)) e)
+rewritten-small s p l t e =
+    let few : size t ≤ 2 * countOf s - 1 = omega (arith, p .few, ap (λ (r : List Tree). records (forest r)) e) in
+    omega (
+      arith,
+      length-file (settingsOf s) t,
+      start-first,
+      start-le 0 (size t) (omega arith),
+      start-le (size t) (2 * countOf s - 1) few,
+      reduction.most-enough (countOf s) l,
+    )
 
 -- So the answer of Reduce is read back whole.
 pub unpacked-reduction : (s : List ℕ) (room : ℕ) → Bytes s → unpackedLength (packedLength (reduction.statedOf (reduction.number s room) s)) ≡ reduction.statedOf (reduction.number s room) s

@@ -1,4 +1,5 @@
 -- The measure is the size of the tree at record `at`.
+use mathlib.Core.Path.{refl}
 use native.Mathlib.Omega.{arith}
 use borrow.Author.Needs.{needs}
 use Rattle.output.specs.Given.{given-inside}
@@ -67,7 +68,7 @@ subtree-at-requires-2 : (t : ℕ) → lts.Need-subtree-at-requires-2 (calls t) (
 subtree-at-requires-2 t c κs = right-inside _ _ (c .before .before .before .before .before .before .is-addition .ensures) (c .before .before .before .before .before .if1 .taken) (c .before .before .before .before .before .before .before .before .before .pre .1) _ (c .before .before .before .before .subtree-at .ensures .0)
 
 fold-sides-requires : (t : ℕ) → lts.Need-fold-sides-requires (calls t) (called-at t) reads.Post
-fold-sides-requires t c κs = sides-given _ _ (c .before .before .before .before .before .before .before .before .is-addition .ensures) (c .before .before .before .before .before .before .before .if1 .taken) (c .before .before .before .before .before .before .before .before .before .before .before .pre .1) _ (c .before .before .before .before .before .before .subtree-at .ensures .0) (c .before .before .before .before .fold-string-addition-chain .ensures) _ (c .before .subtree-at2 .ensures .0) (c .before .before .before .before .fold-string-addition-chain .kept .1 .1 .1 .0)
+fold-sides-requires t c κs = sides-given _ _ (c .before .before .before .before .before .before .before .before .is-addition .ensures) (c .before .before .before .before .before .before .before .if1 .taken) (c .before .before .before .before .before .before .before .before .before .before .before .pre .1) _ (c .before .before .before .before .before .before .subtree-at .ensures .0) (c .before .before .before .before .fold-string-addition-chain .ensures) _ (c .before .subtree-at2 .ensures .0) refl
 
 same-length : (t : ℕ) → lts.Need-same-length (calls t) (called-at t) reads.Post
 same-length t c = search needs

@@ -20,7 +20,7 @@ cast-make-at : tie.Need-cast-make-at
 cast-make-at c = search needs
 
 make-at-requires : tie.Need-make-at-requires
-make-at-requires c κs = (one-inside (c .before .before .before .before .before .before .before .pre), omega (arith, c .before .place-at .ensures .1), omega arith, omega arith)
+make-at-requires c κs = (one-inside (c .before .before .before .before .before .before .before .pre), omega arith, omega arith)
 
 add-result : tie.Need-add-result
 add-result c = omega (arith, one-inside (c .before .before .before .before .before .before .before .before .before .before .pre))
@@ -29,7 +29,7 @@ same-length-2 : tie.Need-same-length-2
 same-length-2 c = search needs
 
 returns-2 : tie.Need-returns-2
-returns-2 c = clear-emptied (c .before .before .before .before .before .before .before .before .before .before .pre) _ (c .before .before .before .before .before .before .before .flagged-at .ensures) (c .before .before .before .before .before .before .if1 .left) _ (c .before .before .before .before .place-at .ensures .0) (c .before .before .make-at .ensures)
+returns-2 c = clear-emptied (c .before .before .before .before .before .before .before .before .before .before .pre) _ (c .before .before .before .before .before .before .before .flagged-at .ensures) (c .before .before .before .before .before .before .if1 .left) _ (c .before .before .before .before .place-at .ensures) (c .before .before .make-at .ensures)
 
 pub empty-unless-flagged-spec : {M : Type 1} → statement M
 empty-unless-flagged-spec =

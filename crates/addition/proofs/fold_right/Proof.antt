@@ -11,7 +11,7 @@ string-fact-at-requires : tie.Need-string-fact-at-requires
 string-fact-at-requires c κs = given-inside (c .before .before .before .before .before .before .pre)
 
 empty-unless-flagged-requires : tie.Need-empty-unless-flagged-requires
-empty-unless-flagged-requires c κs = copied-one (c .before .before .before .before .before .copy-tree .ensures) (c .before .before .before .before .before .before .before .before .before .pre) (c .before .before .before .before .before .copy-tree .kept .1 .1 .1 .0)
+empty-unless-flagged-requires c κs = copied-one (c .before .before .before .before .before .copy-tree .ensures) (c .before .before .before .before .before .before .before .before .before .pre)
 
 same-length : tie.Need-same-length
 same-length c = search needs

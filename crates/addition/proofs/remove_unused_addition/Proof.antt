@@ -1,7 +1,7 @@
 use native.Mathlib.Omega.{arith}
 use Rattle.readings.specs.Split.{some-size}
 use borrow.Author.Needs.{needs}
-use Rattle.addition.specs.Fold.{literal-removed, other-stays}
+use Rattle.addition.specs.Fold.{folds-room, literal-removed, other-stays}
 use Rattle.addition.proofs.remove_unused_addition.Statement.{statement}
 use Rattle.addition.proofs.remove_unused_addition.Tie as tie
 
@@ -9,7 +9,7 @@ fold-string-addition-chain-requires : tie.Need-fold-string-addition-chain-requir
 fold-string-addition-chain-requires c κs = c .before .before .before .pre
 
 kind-at-requires : tie.Need-kind-at-requires
-kind-at-requires c κs = omega (arith, c .before .before .before .before .before .before .before .pre .fits, some-size (c .before .before .before .before .before .before .before .pre .input), c .before .before .before .fold-string-addition-chain .kept .1 .1 .1 .0)
+kind-at-requires c κs = omega (arith, c .before .before .before .before .before .before .before .pre .fits, some-size (c .before .before .before .before .before .before .before .pre .input), folds-room (c .before .before .before .before .before .before .before .pre) (c .before .before .before .fold-string-addition-chain .ensures))
 
 same-length : tie.Need-same-length
 same-length c = search needs

@@ -1,6 +1,6 @@
 use mathlib.Core.Path.{refl}
 use native.Mathlib.Omega.{arith}
-use Rattle.classes.specs.Extract.{element-first, key-within, key-given, key-ends, key-then-value, only-key}
+use Rattle.classes.specs.Extract.{element-first, key-within, key-given, key-ends, key-room, key-then-value, only-key}
 use borrow.Author.Needs.{needs}
 use Rattle.classes.proofs.extract_element.Statement.{statement}
 use Rattle.classes.proofs.extract_element.Tie as tie
@@ -33,7 +33,7 @@ add-copy-records-2 : tie.Need-add-copy-records-2
 add-copy-records-2 c = omega (arith, c .before .before .before .before .before .before .before .before .before .before .pre .input .inside, key-within _ _ (c .before .before .before .before .before .before .before .sub-at .ensures .0) refl _ (c .before .before .before .before .before .before .first-size .ensures) (c .before .before .before .before .before .before .before .before .before .before .pre))
 
 copy-records-requires : tie.Need-copy-records-requires
-copy-records-requires c κs = (omega (arith, c .before .before .before .before .before .before .before .before .before .before .before .pre .input .inside, key-within _ _ (c .before .before .before .before .before .before .before .before .sub-at .ensures .0) refl _ (c .before .before .before .before .before .before .before .first-size .ensures) (c .before .before .before .before .before .before .before .before .before .before .before .pre)), omega (arith, c .before .before .before .before .before .before .before .before .before .before .before .pre .fits, key-within _ _ (c .before .before .before .before .before .before .before .before .sub-at .ensures .0) refl _ (c .before .before .before .before .before .before .before .first-size .ensures) (c .before .before .before .before .before .before .before .before .before .before .before .pre), key-ends _ _ (c .before .before .before .before .before .before .before .before .sub-at .ensures .0) refl _ (c .before .before .before .before .before .before .before .first-size .ensures) (c .before .before .before .before .before .copy-if-flagged .ensures) (c .before .before .before .before .before .before .before .before .before .before .before .pre), c .before .before .before .before .before .copy-if-flagged .kept .1 .1 .1 .0))
+copy-records-requires c κs = (omega (arith, c .before .before .before .before .before .before .before .before .before .before .before .pre .input .inside, key-within _ _ (c .before .before .before .before .before .before .before .before .sub-at .ensures .0) refl _ (c .before .before .before .before .before .before .before .first-size .ensures) (c .before .before .before .before .before .before .before .before .before .before .before .pre)), omega (arith, c .before .before .before .before .before .before .before .before .before .before .before .pre .fits, key-within _ _ (c .before .before .before .before .before .before .before .before .sub-at .ensures .0) refl _ (c .before .before .before .before .before .before .before .first-size .ensures) (c .before .before .before .before .before .before .before .before .before .before .before .pre), key-ends _ _ (c .before .before .before .before .before .before .before .before .sub-at .ensures .0) refl _ (c .before .before .before .before .before .before .before .first-size .ensures) (c .before .before .before .before .before .copy-if-flagged .ensures) (c .before .before .before .before .before .before .before .before .before .before .before .pre), key-room _ _ (c .before .before .before .before .before .before .before .before .sub-at .ensures .0) refl _ (c .before .before .before .before .before .before .before .first-size .ensures) (c .before .before .before .before .before .copy-if-flagged .ensures) (c .before .before .before .before .before .before .before .before .before .before .before .pre)))
 
 add-result : tie.Need-add-result
 add-result c = omega (arith, c .before .before .before .before .before .before .before .before .before .before .before .before .before .before .pre .fits, key-within _ _ (c .before .before .before .before .before .before .before .before .before .before .before .sub-at .ensures .0) refl _ (c .before .before .before .before .before .before .before .before .before .before .first-size .ensures) (c .before .before .before .before .before .before .before .before .before .before .before .before .before .before .pre), key-ends _ _ (c .before .before .before .before .before .before .before .before .before .before .before .sub-at .ensures .0) refl _ (c .before .before .before .before .before .before .before .before .before .before .first-size .ensures) (c .before .before .before .before .before .before .before .before .copy-if-flagged .ensures) (c .before .before .before .before .before .before .before .before .before .before .before .before .before .before .pre))

@@ -20,7 +20,7 @@ subtree-at-requires : tie.Need-subtree-at-requires Inv-loop μ-loop
 subtree-at-requires c κs = walk-inside (c .before .loop .inv) (c .loop-test .taken)
 
 extract-element-requires : tie.Need-extract-element-requires Inv-loop μ-loop
-extract-element-requires c κs = rw (c .before .before .before .loop .inv .same) (element-given (c .before .before .before .loop .inv) (c .before .before .loop-test .taken) _ (c .before .subtree-at .ensures .0))
+extract-element-requires c κs = element-given (c .before .before .before .loop .inv) (c .before .before .loop-test .taken) _ (c .before .subtree-at .ensures .0)
 
 add-p : tie.Need-add-p Inv-loop μ-loop
 add-p c = omega (arith, c .before .before .before .before .subtree-at .ensures .0, subtree-within (c .before .before .before .before .before .before .loop .inv) (c .before .before .before .before .before .loop-test .taken))

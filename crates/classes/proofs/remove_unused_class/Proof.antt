@@ -1,4 +1,4 @@
-use mathlib.Core.Path.{refl, _∙_}
+use mathlib.Core.Path.{refl}
 use native.Mathlib.Omega.{arith}
 use Rattle.classes.specs.Class.{class-first, heritage-within, heritage-given, elements-given, none-left, sequence-given, some-left}
 use borrow.Author.Needs.{needs}
@@ -33,7 +33,7 @@ sub-extract-elements-2 : tie.Need-sub-extract-elements-2
 sub-extract-elements-2 c = omega (arith, heritage-within (c .before .before .before .before .before .before .before .before .pre .kind-is) _ _ (c .before .before .before .before .before .sub-at .ensures .0) refl _ (c .before .before .before .before .first-size .ensures) (c .before .before .before .before .before .before .before .before .pre .given))
 
 extract-elements-requires : tie.Need-extract-elements-requires
-extract-elements-requires c κs = elements-given (c .before .before .before .before .before .before .before .before .before .pre .kind-is) _ _ (c .before .before .before .before .before .before .sub-at .ensures .0) refl _ (c .before .before .before .before .before .first-size .ensures) (c .before .before .before .before .before .before .before .before .before .pre .given) (c .before .before .before .copy-if-flagged .ensures) (c .before .before .before .copy-if-flagged .kept .1 .1 .1 .0)
+extract-elements-requires c κs = elements-given (c .before .before .before .before .before .before .before .before .before .pre .kind-is) _ _ (c .before .before .before .before .before .before .sub-at .ensures .0) refl _ (c .before .before .before .before .before .first-size .ensures) (c .before .before .before .before .before .before .before .before .before .pre .given) (c .before .before .before .copy-if-flagged .ensures) refl
 
 same-length : tie.Need-same-length
 same-length c = search needs
@@ -45,13 +45,13 @@ place-at-requires : tie.Need-place-at-requires
 place-at-requires c κs = search needs
 
 make-sequence-requires : tie.Need-make-sequence-requires
-make-sequence-requires c κs = sequence-given (c .before .before .before .before .before .before .before .before .before .before .before .before .before .before .before .pre .kind-is) _ _ (c .before .before .before .before .before .before .before .before .before .before .before .before .sub-at .ensures .0) refl _ (c .before .before .before .before .before .before .before .before .before .before .before .first-size .ensures) _ (c .before .before .before .before .before .before .before .before .before .copy-if-flagged .ensures) (c .before .before .before .before .before .extract-elements .ensures) (c .before .before .before .before .before .before .before .before .before .before .before .before .before .before .before .pre .given) (c .before .before .before .before .before .extract-elements .kept .1 .1 .1 .0 ∙ c .before .before .before .before .before .before .before .before .before .copy-if-flagged .kept .1 .1 .1 .0) _ (c .place-at .ensures .1)
+make-sequence-requires c κs = sequence-given (c .before .before .before .before .before .before .before .before .before .before .before .before .before .before .before .pre .kind-is) _ _ (c .before .before .before .before .before .before .before .before .before .before .before .before .sub-at .ensures .0) refl _ (c .before .before .before .before .before .before .before .before .before .before .before .first-size .ensures) _ (c .before .before .before .before .before .before .before .before .before .copy-if-flagged .ensures) (c .before .before .before .before .before .extract-elements .ensures) (c .before .before .before .before .before .before .before .before .before .before .before .before .before .before .before .pre .given) refl
 
 same-length-2 : tie.Need-same-length-2
 same-length-2 c = search needs
 
 returns-2 : tie.Need-returns-2
-returns-2 c = some-left (c .before .before .before .before .before .before .before .before .before .before .before .before .before .before .before .before .before .before .pre .kind-is) _ _ (c .before .before .before .before .before .before .before .before .before .before .before .before .before .before .before .sub-at .ensures .0) refl _ (c .before .before .before .before .before .before .before .before .before .before .before .before .before .before .first-size .ensures) _ (c .before .before .before .before .before .before .before .before .before .before .before .before .copy-if-flagged .ensures) (c .before .before .before .before .before .before .before .before .extract-elements .ensures) (c .before .before .before .before .before .if1 .left) _ (c .before .before .before .place-at .ensures .0) (c .before .before .make-sequence .ensures)
+returns-2 c = some-left (c .before .before .before .before .before .before .before .before .before .before .before .before .before .before .before .before .before .before .pre .kind-is) _ _ (c .before .before .before .before .before .before .before .before .before .before .before .before .before .before .before .sub-at .ensures .0) refl _ (c .before .before .before .before .before .before .before .before .before .before .before .before .before .before .first-size .ensures) _ (c .before .before .before .before .before .before .before .before .before .before .before .before .copy-if-flagged .ensures) (c .before .before .before .before .before .before .before .before .extract-elements .ensures) (c .before .before .before .before .before .if1 .left) _ (c .before .before .before .place-at .ensures) (c .before .before .make-sequence .ensures)
 
 pub remove-unused-class-spec : {M : Type 1} → statement M
 remove-unused-class-spec =

@@ -1,7 +1,7 @@
 use mathlib.Core.Path.{sym, ap, _∙_}
 use native.Mathlib.Omega.{arith}
 use Rattle.file.specs.Answer.{stated}
-use Rattle.reducer.specs.Run.{refused-file, count-few, refused-room, file-given}
+use Rattle.reducer.specs.Run.{refused-file, count-few, least-small, refused-room, file-given}
 use borrow.Author.Needs.{needs}
 use Rattle.reducer.proofs.reduce.Statement.{statement}
 use Rattle.reducer.proofs.reduce.Tie as tie
@@ -15,23 +15,20 @@ enum-known-checked c = search needs
 enum-known-checked-2 : tie.Need-enum-known-checked-2
 enum-known-checked-2 c = search needs
 
-mul-if1 : tie.Need-mul-if1
-mul-if1 c = omega (arith, count-few _ _ _ (ap stated (sym (c .before .checked2 .given .1)) ∙ c .before .before .before .check .ensures))
+mul-file-length : tie.Need-mul-file-length
+mul-file-length c = omega (arith, count-few _ _ _ (ap stated (sym (c .before .checked2 .given .1)) ∙ c .before .before .before .check .ensures))
 
-sub-if1 : tie.Need-sub-if1
-sub-if1 c = omega (arith, count-few _ _ _ (ap stated (sym (c .before .checked2 .given .1)) ∙ c .before .before .before .check .ensures))
+sub-file-length : tie.Need-sub-file-length
+sub-file-length c = omega (arith, count-few _ _ _ (ap stated (sym (c .before .checked2 .given .1)) ∙ c .before .before .before .check .ensures))
 
-mul-if1-2 : tie.Need-mul-if1-2
-mul-if1-2 c = omega (arith, count-few _ _ _ (ap stated (sym (c .before .checked2 .given .1)) ∙ c .before .before .before .check .ensures))
-
-add-if1 : tie.Need-add-if1
-add-if1 c = omega (arith, count-few _ _ _ (ap stated (sym (c .before .checked2 .given .1)) ∙ c .before .before .before .check .ensures))
+file-length-requires : tie.Need-file-length-requires
+file-length-requires c κs = least-small _ _ _ (ap stated (sym (c .before .checked2 .given .1)) ∙ c .before .before .before .check .ensures)
 
 returns : tie.Need-returns
-returns c = refused-room _ _ _ (ap stated (sym (c .before .before .checked2 .given .1)) ∙ c .before .before .before .before .check .ensures) (record { small = λ i. omega (arith, c .before .before .before .before .before .before .shared-slice-known .given i) }) (c .if1 .taken)
+returns c = refused-room _ _ _ (ap stated (sym (c .before .before .before .checked2 .given .1)) ∙ c .before .before .before .before .before .check .ensures) (record { small = λ i. omega (arith, c .before .before .before .before .before .before .before .shared-slice-known .given i) }) (c .before .file-length .ensures) (c .if1 .taken)
 
 reduce-by-size-requires : tie.Need-reduce-by-size-requires
-reduce-by-size-requires c κs = file-given _ _ _ (ap stated (sym (c .before .before .before .checked2 .given .1)) ∙ c .before .before .before .before .before .check .ensures) (record { small = λ i. omega (arith, c .before .before .before .before .before .before .before .shared-slice-known .given i) }) (c .before .if1 .left)
+reduce-by-size-requires c κs = file-given _ _ _ (ap stated (sym (c .before .before .before .before .checked2 .given .1)) ∙ c .before .before .before .before .before .before .check .ensures) (record { small = λ i. omega (arith, c .before .before .before .before .before .before .before .before .shared-slice-known .given i) }) (c .before .before .file-length .ensures) (c .before .if1 .left)
 
 returns-2 : tie.Need-returns-2
 returns-2 c = refused-file _ _ (record { small = λ i. omega (arith, c .before .before .before .before .before .shared-slice-known .given i) }) (ap stated (sym (c .before .checked .given .1)) ∙ c .before .before .before .check .ensures)
@@ -49,10 +46,9 @@ reduce-spec =
     check-requires
     enum-known-checked
     enum-known-checked-2
-    mul-if1
-    sub-if1
-    mul-if1-2
-    add-if1
+    mul-file-length
+    sub-file-length
+    file-length-requires
     returns
     reduce-by-size-requires
     returns-2

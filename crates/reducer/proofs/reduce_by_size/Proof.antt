@@ -1,4 +1,5 @@
 use native.Mathlib.Omega.{arith}
+use Rattle.tree.specs.Layout.{width, span, start}
 use Rattle.reducer.specs.Run.{count-bounds}
 use borrow.Author.Needs.{needs}
 use Rattle.reducer.proofs.reduce_by_size.Statement.{statement}
@@ -8,6 +9,7 @@ slice-aggregate-reduce-in : tie.Need-slice-aggregate-reduce-in
 slice-aggregate-reduce-in c = search needs
 
 reduce-in-requires : tie.Need-reduce-in-requires
+unfolding start span width
 reduce-in-requires c κs = search needs
 
 same-length : tie.Need-same-length
@@ -20,6 +22,7 @@ slice-aggregate-reduce-in-2 : tie.Need-slice-aggregate-reduce-in-2
 slice-aggregate-reduce-in-2 c = search needs
 
 reduce-in-requires-2 : tie.Need-reduce-in-requires-2
+unfolding start span width
 reduce-in-requires-2 c κs = search needs
 
 same-length-2 : tie.Need-same-length-2
@@ -32,6 +35,7 @@ slice-aggregate-reduce-in-3 : tie.Need-slice-aggregate-reduce-in-3
 slice-aggregate-reduce-in-3 c = search needs
 
 reduce-in-requires-3 : tie.Need-reduce-in-requires-3
+unfolding start span width
 reduce-in-requires-3 c κs = (c .before .before .before .before .before .before .pre, omega (arith, count-bounds (c .before .before .before .before .before .before .pre)))
 
 same-length-3 : tie.Need-same-length-3

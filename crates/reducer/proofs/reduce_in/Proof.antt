@@ -1,11 +1,11 @@
 use native.Mathlib.Omega.{arith}
-use Rattle.reducer.specs.Run.{count-bounds, root-given, end-few, removable, kept}
+use Rattle.reducer.specs.Run.{count-bounds, header-fits, header-inside, root-given, end-few, end-small, end-fits, removable, kept}
 use borrow.Author.Needs.{needs}
 use Rattle.reducer.proofs.reduce_in.Statement.{statement}
 use Rattle.reducer.proofs.reduce_in.Tie as tie
 
 remove-unused-expression-requires : tie.Need-remove-unused-expression-requires
-remove-unused-expression-requires c κs = root-given (c .before .before .before .before .pre .0) (c .before .before .before .before .pre .1)
+remove-unused-expression-requires c κs = root-given (c .before .before .before .before .pre .0) (c .before .before .before .before .args .work .now) (c .before .before .before .before .pre .1)
 
 same-length : tie.Need-same-length
 same-length c = search needs
@@ -14,16 +14,21 @@ returns : tie.Need-returns
 returns c = removable (c .before .before .before .before .before .before .before .before .pre .0) (c .before .before .before .remove-unused-expression .ensures) (c .if1 .taken)
 
 write-header-requires : tie.Need-write-header-requires
-write-header-requires c κs = (omega (arith, count-bounds (c .before .before .before .before .before .before .before .before .before .pre .0)), omega (arith, c .before .before .before .before .before .before .before .before .before .pre .1, c .before .before .before .before .remove-unused-expression .kept .1 .1 .1 .1 .1 .0), omega (arith, end-few (c .before .before .before .before .before .before .before .before .before .pre .0) (c .before .before .before .before .remove-unused-expression .ensures), count-bounds (c .before .before .before .before .before .before .before .before .before .pre .0)))
+write-header-requires c κs = (
+  header-inside (c .before .before .before .before .before .before .before .before .before .pre .0),
+  omega (arith, c .before .before .before .before .before .before .before .before .before .pre .1, c .before .before .before .before .remove-unused-expression .kept .1 .1 .1 .1 .1 .0, header-fits (c .before .before .before .before .before .before .before .before .before .pre .0)),
+  omega (arith, end-few (c .before .before .before .before .before .before .before .before .before .pre .0) (c .before .before .before .before .remove-unused-expression .ensures), count-bounds (c .before .before .before .before .before .before .before .before .before .pre .0)),
+)
 
-mul-length : tie.Need-mul-length
-mul-length c = omega (arith, end-few (c .before .before .before .before .before .before .before .before .before .before .before .before .pre .0) (c .before .before .before .before .before .before .before .remove-unused-expression .ensures), count-bounds (c .before .before .before .before .before .before .before .before .before .before .before .before .pre .0))
-
-add-length : tie.Need-add-length
-add-length c = omega (arith, end-few (c .before .before .before .before .before .before .before .before .before .before .before .before .pre .0) (c .before .before .before .before .before .before .before .remove-unused-expression .ensures), count-bounds (c .before .before .before .before .before .before .before .before .before .before .before .before .pre .0))
+file-length-requires : tie.Need-file-length-requires
+file-length-requires c κs = end-small (c .before .before .before .before .before .before .before .before .before .before .before .before .pre .0) (c .before .before .before .before .before .before .before .remove-unused-expression .ensures)
 
 copy-bytes-requires : tie.Need-copy-bytes-requires
-copy-bytes-requires c κs = let e = end-few (c .before .before .before .before .before .before .before .before .before .before .before .before .before .before .pre .0) (c .before .before .before .before .before .before .before .before .before .remove-unused-expression .ensures) in (omega (arith, e, count-bounds (c .before .before .before .before .before .before .before .before .before .before .before .before .before .before .pre .0), c .before .before .before .before .before .before .before .before .before .before .before .before .before .before .pre .1, c .before .before .before .before .write-header .kept .1 .0, c .before .before .before .before .before .before .before .before .before .remove-unused-expression .kept .1 .1 .1 .1 .1 .0), omega (arith, e, count-bounds (c .before .before .before .before .before .before .before .before .before .before .before .before .before .before .pre .0), c .before .before .before .before .before .before .before .before .before .before .before .before .before .before .pre .0 .fits))
+copy-bytes-requires c κs =
+    let e = end-fits (c .before .before .before .before .before .before .before .before .before .before .before .before .before .before .before .pre .0) (c .before .before .before .before .before .before .before .before .before .before .remove-unused-expression .ensures) in (
+      omega (arith, e, c .before .before .file-length .ensures, c .before .before .before .before .before .before .before .before .before .before .before .before .before .before .before .pre .1, c .before .before .before .before .before .write-header .kept .1 .0, c .before .before .before .before .before .before .before .before .before .before .remove-unused-expression .kept .1 .1 .1 .1 .1 .0),
+      omega (arith, e, c .before .before .file-length .ensures, c .before .before .before .before .before .before .before .before .before .before .before .before .before .before .before .pre .0 .fits),
+    )
 
 same-length-2 : tie.Need-same-length-2
 same-length-2 c = search needs
@@ -32,7 +37,11 @@ same-length-3 : tie.Need-same-length-3
 same-length-3 c = search needs
 
 returns-2 : tie.Need-returns-2
-returns-2 c = kept (c .before .before .before .before .before .before .before .before .before .before .before .before .before .before .before .before .before .pre .0) (c .before .before .before .before .before .before .before .before .before .before .before .before .remove-unused-expression .ensures) (c .before .before .before .before .before .before .before .write-header .ensures) (record { small = λ i. omega (arith, c .before .before .before .before .before .slice-known4 .given i) }) (omega (arith, end-few (c .before .before .before .before .before .before .before .before .before .before .before .before .before .before .before .before .before .pre .0) (c .before .before .before .before .before .before .before .before .before .before .before .before .remove-unused-expression .ensures), count-bounds (c .before .before .before .before .before .before .before .before .before .before .before .before .before .before .before .before .before .pre .0), c .before .before .before .before .before .before .before .before .before .before .before .before .before .before .before .before .before .pre .1, c .before .before .before .before .before .before .before .write-header .kept .1 .0, c .before .before .before .before .before .before .before .before .before .before .before .before .remove-unused-expression .kept .1 .1 .1 .1 .1 .0)) (c .before .before .before .before .before .before .before .before .before .if1 .left) (c .before .before .copy-bytes .ensures) (c .before .before .copy-bytes .kept .1 .1 .1 .0)
+returns-2 c =
+    let a = c .before .before .before .before .before .before .before .before .before .before .before .before .before .remove-unused-expression .ensures in
+    kept (c .before .before .before .before .before .before .before .before .before .before .before .before .before .before .before .before .before .before .pre .0) a (c .before .before .before .before .before .before .before .before .write-header .ensures) (record { small = λ i. omega (arith, c .before .before .before .before .before .before .slice-known4 .given i) })
+    (omega (arith, end-fits (c .before .before .before .before .before .before .before .before .before .before .before .before .before .before .before .before .before .before .pre .0) a, c .before .before .before .before .before .before .before .before .before .before .before .before .before .before .before .before .before .before .pre .1, c .before .before .before .before .before .before .before .before .write-header .kept .1 .0, c .before .before .before .before .before .before .before .before .before .before .before .before .before .remove-unused-expression .kept .1 .1 .1 .1 .1 .0)) (c .before .before .before .before .before .before .before .before .before .before .if1 .left)
+    (c .before .before .before .before .before .file-length .ensures) (c .before .before .copy-bytes .ensures) (c .before .before .copy-bytes .kept .1 .1 .1 .0)
 
 pub reduce-in-spec : {M : Type 1} → statement M
 reduce-in-spec =
@@ -42,8 +51,7 @@ reduce-in-spec =
     same-length
     returns
     write-header-requires
-    mul-length
-    add-length
+    file-length-requires
     copy-bytes-requires
     same-length-2
     same-length-3

@@ -8,6 +8,7 @@ use lib.Dec.{eqb}
 use borrow.Author.Tests.{eqb-true, not-true}
 use Rattle.tree.specs.Below.{and-both, and-left, and-right}
 use Rattle.tree.specs.Tree.{Place, Head, Tree, trees, trees-forest, recur, each, All}
+use Rattle.tree.specs.Heads.{asKind}
 use Rattle.tree.specs.Kind as kind
 use Rattle.rules.specs.Lists.{any, every}
 use Rattle.rules.specs.Settings.{Settings, treeShakeOnly}
@@ -20,13 +21,10 @@ use Rattle.rules.specs.Effects.{classIsEffect}
 use Rattle.rules.specs.Proofs.Lists.{or-false-l, or-true-r, none-all}
 
 -- A node of a kind is taken by that kind's handler.
-abbrev pub at : Head → ℕ → ℕ → Head
-at h k u = record { kind = k; facts = h .facts; sub = u; reserved = h .reserved; text = h .text; place = h .place }
+handled-at : (h : Head) (k u : ℕ) → h .kind ≡ k → h .sub ≡ u → handler h ≡ handler (asKind h k u)
+handled-at h k u p q = ap₂ (λ k u. handler (asKind h k u)) p q
 
-handled-at : (h : Head) (k u : ℕ) → h .kind ≡ k → h .sub ≡ u → handler h ≡ handler (at h k u)
-handled-at h k u p q = ap₂ (λ k u. handler (at h k u)) p q
-
-pub handled : (t : Tree) (k : ℕ) → isKind k t ≡ true → handler (t .head) ≡ handler (at (t .head) k (t .head .sub))
+pub handled : (t : Tree) (k : ℕ) → isKind k t ≡ true → handler (t .head) ≡ handler (asKind (t .head) k (t .head .sub))
 unfolding isKind
 handled t k e = handled-at (t .head) k (t .head .sub) (eqb-true (t .head .kind) k e) refl
 

@@ -1,12 +1,13 @@
 -- A kept answer of a well-formed tree is well-formed, and its fields fit their bytes if the tree's do.
 use mathlib.Core.Bool.{true, _&&_}
 use mathlib.Core.Path.{_≡_, refl}
-use Prim.Native.Nat.{ℕ, _^_}
+use Prim.Native.Nat.{ℕ}
 use lib.Dec.{ltb}
 use Rattle.tree.specs.Tree.{Head, Forest, nil, node, Tree, forest, one, All}
 use Rattle.tree.specs.Below.{and-both, and-left, and-right}
 use Rattle.tree.specs.Children.{wellFormed}
 use Rattle.tree.specs.File.{encodable, allEncodable}
+use Rattle.tree.specs.Encoding.{place-fits}
 use Rattle.rules.specs.Settings.{Settings}
 use Rattle.rules.specs.Made.{madeHead}
 use Rattle.rules.specs.Reduce.{reduce}
@@ -35,10 +36,7 @@ Fits h = encodable h ≡ true
 
 made-fits : (h : Head) → Fits h → (k facts : ℕ) → ltb k 256 ≡ true → ltb facts 256 ≡ true → Fits (madeHead k facts (h .place))
 unfolding encodable
-made-fits h f k facts ek ef =
-    let bytes = ltb (h .kind) 256 && (ltb (h .facts) 256 && (ltb (h .sub) 256 && ltb (h .reserved) 256)) in
-    let numbers = ltb (h .text) (2 ^ 32) && ltb (h .place) (2 ^ 32) in
-    rw (ek, ef, and-right (ltb (h .text) (2 ^ 32)) (ltb (h .place) (2 ^ 32)) (and-right bytes numbers f))
+made-fits h f k facts ek ef = rw (ek, ef, place-fits h f)
 
 encodable-everywhere : (f : Forest) → allEncodable f ≡ true → EverywhereIn (λ t. Fits (t .head)) f
 unfolding allEncodable

@@ -10,6 +10,7 @@ use lib.Dec.{eqb, leb}
 use lib.ListN.{take, drop}
 use borrow.Author.Tests.{leb-true, leb-false, not-true}
 use Rattle.tree.specs.Tree.{Head, Forest, nil, node, Tree, trees, count}
+use Rattle.tree.specs.Heads.{asKind}
 use Rattle.tree.specs.Kind as kind
 use Rattle.tree.specs.Below.{and-both, and-left, and-right}
 use Rattle.tree.specs.Record.{recordOk, factsOk, subOk, included}
@@ -17,7 +18,6 @@ use Rattle.tree.specs.Children.{heritage, elementChildren, childCountOk, maySta
 use Rattle.rules.specs.Lists.{every}
 use Rattle.rules.specs.Handler.{Handler, unaryHandler, binaryHandler, handler}
 use Rattle.rules.specs.Proofs.Lists.{by-cond}
-use Rattle.rules.specs.Proofs.Facts.{at}
 
 abbrev pub isExpr : Tree → Bool
 isExpr t = kind.isExpression (t .head .kind)
@@ -102,7 +102,7 @@ each-at P n (suc m) ps k l u =
 
 -- A head of another kind.
 abbrev ofKind : Head → ℕ → Head
-ofKind h k = at h k (h .sub)
+ofKind h k = asKind h k (h .sub)
 
 record Kinds (k : ℕ) : Type 0 where
   low : 1 ≤ k

@@ -7,11 +7,8 @@ use Rattle.output.proofs.record.keep_at.Tie as tie
 copy-records-requires : tie.Need-copy-records-requires
 copy-records-requires c κs = search needs
 
-mul-p : tie.Need-mul-p
-mul-p c = search needs
-
-add-p : tie.Need-add-p
-add-p c = search needs
+start-of-requires : tie.Need-start-of-requires
+start-of-requires c κs = search needs
 
 sub-patch : tie.Need-sub-patch
 sub-patch c = search needs
@@ -29,15 +26,14 @@ same-length : tie.Need-same-length
 same-length c = search needs
 
 returns : tie.Need-returns
-returns c = kept-at _ _ _ _ _ _ _ _ (omega (arith, c .before .before .before .before .before .before .copy-records .kept .1 .1 .1 .0)) (c .before .before .before .before .before .before .copy-records .ensures) (c .before .before .patch .ensures)
+returns c = kept-at _ _ _ (omega (arith, c .before .before .before .before .before .before .before .before .copy-records .ensures .below .room)) _ (c .before .before .before .before .start-of .ensures .0) (search needs) _ _ _ _ _ (c .before .before .before .before .before .before .before .before .copy-records .ensures) (c .before .before .patch .ensures)
 
 pub keep-at-spec : {M : Type 1} → statement M
 keep-at-spec =
     tie.close
     (tie.spec
     copy-records-requires
-    mul-p
-    add-p
+    start-of-requires
     sub-patch
     part-patch-start
     part-patch-end

@@ -27,14 +27,14 @@ put16-requires-2 c κs = (rw (c .before .before .before .put16 .kept .0) (simp l
 put32-requires : tie.Need-put32-requires
 put32-requires c κs = (rw (c .before .before .before .put162 .kept .0, c .before .before .before .before .before .before .before .put16 .kept .0) (simp length-set (omega arith)), omega arith)
 
-put32-requires-2 : tie.Need-put32-requires-2
-put32-requires-2 c κs = (rw (c .before .before .before .put32 .kept .0, c .before .before .before .before .before .before .before .put162 .kept .0, c .before .before .before .before .before .before .before .before .before .before .before .put16 .kept .0) (simp length-set (omega arith)), omega arith)
+put-place-requires : tie.Need-put-place-requires
+put-place-requires c κs = rw (c .before .before .before .put32 .kept .0, c .before .before .before .before .before .before .before .put162 .kept .0, c .before .before .before .before .before .before .before .before .before .before .before .put16 .kept .0) (simp length-set (omega arith))
 
 same-length : tie.Need-same-length
-same-length c = c .before .before .put322 .kept .0 ∙ c .before .before .before .before .before .before .put32 .kept .0 ∙ c .before .before .before .before .before .before .before .before .before .before .put162 .kept .0 ∙ c .before .before .before .before .before .before .before .before .before .before .before .before .before .before .put16 .kept .0 ∙ simp length-set
+same-length c = c .before .before .put-place .kept .0 ∙ c .before .before .before .before .before .before .put32 .kept .0 ∙ c .before .before .before .before .before .before .before .before .before .before .put162 .kept .0 ∙ c .before .before .before .before .before .before .before .before .before .before .before .before .before .before .put16 .kept .0 ∙ simp length-set
 
 returns : tie.Need-returns
-returns c = made-of refl (c .before .before .before .before .before .before .before .before .before .before .before .before .before .before .put16 .ensures) (c .before .before .before .before .before .before .before .before .before .before .put162 .ensures) (c .before .before .before .before .before .before .put32 .ensures) (c .before .before .put322 .ensures) (omega arith)
+returns c = made-of refl (c .before .before .before .before .before .before .before .before .before .before .before .before .before .before .put16 .ensures) (c .before .before .before .before .before .before .before .before .before .before .put162 .ensures) (c .before .before .before .before .before .before .put32 .ensures) (c .before .before .put-place .ensures) (omega arith)
 
 pub make-spec : {M : Type 1} → statement M
 make-spec =
@@ -47,6 +47,6 @@ make-spec =
     put16-requires
     put16-requires-2
     put32-requires
-    put32-requires-2
+    put-place-requires
     same-length
     returns)

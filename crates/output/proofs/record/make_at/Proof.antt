@@ -4,11 +4,8 @@ use borrow.Author.Needs.{needs}
 use Rattle.output.proofs.record.make_at.Statement.{statement}
 use Rattle.output.proofs.record.make_at.Tie as tie
 
-mul-p : tie.Need-mul-p
-mul-p c = search needs
-
-add-p : tie.Need-add-p
-add-p c = search needs
+start-of-requires : tie.Need-start-of-requires
+start-of-requires c κs = search needs
 
 sub-make : tie.Need-sub-make
 sub-make c = search needs
@@ -26,9 +23,16 @@ same-length : tie.Need-same-length
 same-length c = search needs
 
 returns : tie.Need-returns
-returns c = made-at _ _ _ (omega arith) _ _ _ _ _ (c .before .before .make .ensures)
+returns c = made-at _ _ _ (omega arith) _ (c .before .before .before .before .start-of .ensures .0) (search needs) _ _ _ _ _ (c .before .before .make .ensures)
 
 pub make-at-spec : {M : Type 1} → statement M
 make-at-spec =
     tie.close
-    (tie.spec mul-p add-p sub-make part-make-start part-make-end make-requires same-length returns)
+    (tie.spec
+    start-of-requires
+    sub-make
+    part-make-start
+    part-make-end
+    make-requires
+    same-length
+    returns)

@@ -8,16 +8,16 @@ place-at-requires : tie.Need-place-at-requires
 place-at-requires c κs = c .before .before .pre .node-inside
 
 flush-object-requires : tie.Need-flush-object-requires
-flush-object-requires c κs = closing-waiting (c .before .before .before .before .pre) (c .before .place-at .ensures .1)
+flush-object-requires c κs = closing-waiting (c .before .before .before .before .pre)
 
 none-one-several-requires : tie.Need-none-one-several-requires
-none-one-several-requires c κs = closing-list makeObject (c .before .before .before .flush-object .ensures) (c .before .before .before .before .before .before .before .before .pre) (c .before .before .before .flush-object .kept .0)
+none-one-several-requires c κs = closing-list makeObject (c .before .before .before .flush-object .ensures) (c .before .before .before .before .before .before .before .before .pre)
 
 same-length : tie.Need-same-length
 same-length c = search needs
 
 returns : tie.Need-returns
-returns c = closed makeObject (c .before .before .before .before .before .before .flush-object .ensures) (c .before .before .before .before .before .before .before .before .place-at .ensures .0) (c .before .before .none-one-several .ensures)
+returns c = closed makeObject (c .before .before .before .before .before .before .flush-object .ensures) (c .before .before .before .before .before .before .before .before .place-at .ensures) (c .before .before .none-one-several .ensures)
 
 pub close-object-spec : {M : Type 1} → statement M
 close-object-spec =

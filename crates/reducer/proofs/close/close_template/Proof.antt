@@ -8,16 +8,16 @@ place-at-requires : tie.Need-place-at-requires
 place-at-requires c κs = c .before .before .pre .node-inside
 
 flush-template-requires : tie.Need-flush-template-requires
-flush-template-requires c κs = closing-waiting (c .before .before .before .before .pre) (c .before .place-at .ensures .1)
+flush-template-requires c κs = closing-waiting (c .before .before .before .before .pre)
 
 none-one-several-requires : tie.Need-none-one-several-requires
-none-one-several-requires c κs = closing-list makeTemplate (c .before .before .before .flush-template .ensures) (c .before .before .before .before .before .before .before .before .pre) (c .before .before .before .flush-template .kept .0)
+none-one-several-requires c κs = closing-list makeTemplate (c .before .before .before .flush-template .ensures) (c .before .before .before .before .before .before .before .before .pre)
 
 same-length : tie.Need-same-length
 same-length c = search needs
 
 returns : tie.Need-returns
-returns c = closed makeTemplate (c .before .before .before .before .before .before .flush-template .ensures) (c .before .before .before .before .before .before .before .before .place-at .ensures .0) (c .before .before .none-one-several .ensures)
+returns c = closed makeTemplate (c .before .before .before .before .before .before .flush-template .ensures) (c .before .before .before .before .before .before .before .before .place-at .ensures) (c .before .before .none-one-several .ensures)
 
 pub close-template-spec : {M : Type 1} → statement M
 close-template-spec =

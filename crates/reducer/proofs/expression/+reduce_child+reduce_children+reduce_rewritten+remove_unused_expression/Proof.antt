@@ -3,6 +3,7 @@ use Rattle.handlers.specs.declared.outcome.Rewrite.the-variants as rewrites
 use Rattle.reducer.specs.Expression.{as-outcome, as-made, given-copy, inner-given, outer-given, whole-given, removable-done, unchanged-done, unwrapped-done, in-order-list, sequence-done, array-done, comparison-done, walked-given, template-done, object-done, callee-first, callee-within, arguments-given, arguments-list, arguments-done, addition-done, class-given, class-done}
 use Rattle.handlers.specs.declared.outcome.Outcome.the-variants.{Removable, Unchanged, Unwrapped, Rewritten, Arguments, Addition, Class}
 use Rattle.reducer.specs.Children.{Walking, walk-start, walk-done, walk-subtree, child-some, child-within, child-given, walk-on}
+use mathlib.Core.Path.{refl}
 use native.Mathlib.Omega.{arith}
 use Prim.Native.Nat.{_+_, _*_, _-_}
 use borrow.Author.Needs.{needs}
@@ -152,7 +153,7 @@ reduce-child-wrap-spread-requires : (t : ℕ) → reduce-child-lts.Need-wrap-spr
 reduce-child-wrap-spread-requires t c κs = (child-node (c .before .before .before .before .before .before .before .pre .1), c .before .before .before .before .before .before .before .pre .1 .input .inside, child-fits (c .before .before .before .before .before .before .before .pre .1), some-size (c .before .before .before .before .before .before .before .pre .1 .input), child-small (c .before .before .before .before .before .before .before .pre .1))
 
 reduce-child-settle-requires : (t : ℕ) → reduce-child-lts.Need-settle-requires (reduce-child-calls t) (reduce-child-at t) reduce-child.Post
-reduce-child-settle-requires t c κs = wrapped-given (c .before .before .before .wrap-spread .ensures) (c .before .before .before .before .before .before .before .before .before .before .before .pre .1) (c .before .before .before .wrap-spread .kept .1 .1 .1 .0)
+reduce-child-settle-requires t c κs = wrapped-given (c .before .before .before .wrap-spread .ensures) (c .before .before .before .before .before .before .before .before .before .before .before .pre .1) refl
 
 reduce-child-same-length-2 : (t : ℕ) → reduce-child-lts.Need-same-length-2 (reduce-child-calls t) (reduce-child-at t) reduce-child.Post
 reduce-child-same-length-2 t c = search needs
@@ -164,7 +165,7 @@ reduce-child-remove-unused-expression-requires : (t : ℕ) → reduce-child-lts.
 reduce-child-remove-unused-expression-requires t c κs = (omega (arith, c .before .before .before .before .before .before .before .pre .0), child-tree (c .before .before .before .before .before .before .before .pre .1))
 
 reduce-child-settle-requires-2 : (t : ℕ) → reduce-child-lts.Need-settle-requires-2 (reduce-child-calls t) (reduce-child-at t) reduce-child.Post
-reduce-child-settle-requires-2 t c κs = reduced-given (c .before .before .before .remove-unused-expression .ensures) (c .before .before .before .before .before .before .before .before .before .before .before .pre .1) (c .before .before .before .remove-unused-expression .kept .1 .1 .1 .1 .1 .0)
+reduce-child-settle-requires-2 t c κs = reduced-given (c .before .before .before .remove-unused-expression .ensures) (c .before .before .before .before .before .before .before .before .before .before .before .pre .1) refl
 
 reduce-child-same-length-3 : (t : ℕ) → reduce-child-lts.Need-same-length-3 (reduce-child-calls t) (reduce-child-at t) reduce-child.Post
 reduce-child-same-length-3 t c = search needs
@@ -225,7 +226,7 @@ reduce-rewritten-reduce-children-requires : (t : ℕ) → reduce-rewritten-lts.N
 reduce-rewritten-reduce-children-requires t c κs = (omega (arith, c .before .before .before .before .before .pre .0, (c .before .before .before .before .before .pre .1 .given) .input .small, some-depth ((c .before .before .before .before .before .pre .1 .given) .input), some-size ((c .before .before .before .before .before .pre .1 .given) .input)), inner-given (c .before .before .before .before .before .pre .1 .given))
 
 reduce-rewritten-remove-unused-sequence-expr-requires : (t : ℕ) → reduce-rewritten-lts.Need-remove-unused-sequence-expr-requires (reduce-rewritten-calls t) (reduce-rewritten-at t) reduce-rewritten.Post
-reduce-rewritten-remove-unused-sequence-expr-requires t c κs = in-order-list (c .before .before .before .reduce-children .ensures) (c .before .before .before .before .before .before .before .before .before .pre .1 .given) (c .before .before .before .reduce-children .kept .1 .1 .1 .1 .1 .1 .0)
+reduce-rewritten-remove-unused-sequence-expr-requires t c κs = in-order-list (c .before .before .before .reduce-children .ensures) (c .before .before .before .before .before .before .before .before .before .pre .1 .given) refl
 
 reduce-rewritten-enum-told-2 : (t : ℕ) → reduce-rewritten-lts.Need-enum-told-2 (reduce-rewritten-calls t) (reduce-rewritten-at t) reduce-rewritten.Post
 reduce-rewritten-enum-told-2 t c = search needs
@@ -234,7 +235,7 @@ reduce-rewritten-reduce-children-requires-2 : (t : ℕ) → reduce-rewritten-lts
 reduce-rewritten-reduce-children-requires-2 t c κs = (omega (arith, c .before .before .before .before .before .pre .0, (c .before .before .before .before .before .pre .1 .given) .input .small, some-depth ((c .before .before .before .before .before .pre .1 .given) .input), some-size ((c .before .before .before .before .before .pre .1 .given) .input)), inner-given (c .before .before .before .before .before .pre .1 .given))
 
 reduce-rewritten-remove-unused-array-expr-requires : (t : ℕ) → reduce-rewritten-lts.Need-remove-unused-array-expr-requires (reduce-rewritten-calls t) (reduce-rewritten-at t) reduce-rewritten.Post
-reduce-rewritten-remove-unused-array-expr-requires t c κs = in-order-list (c .before .before .before .reduce-children2 .ensures) (c .before .before .before .before .before .before .before .before .before .pre .1 .given) (c .before .before .before .reduce-children2 .kept .1 .1 .1 .1 .1 .1 .0)
+reduce-rewritten-remove-unused-array-expr-requires t c κs = in-order-list (c .before .before .before .reduce-children2 .ensures) (c .before .before .before .before .before .before .before .before .before .pre .1 .given) refl
 
 reduce-rewritten-enum-told-3 : (t : ℕ) → reduce-rewritten-lts.Need-enum-told-3 (reduce-rewritten-calls t) (reduce-rewritten-at t) reduce-rewritten.Post
 reduce-rewritten-enum-told-3 t c = search needs
@@ -243,7 +244,7 @@ reduce-rewritten-reduce-children-requires-3 : (t : ℕ) → reduce-rewritten-lts
 reduce-rewritten-reduce-children-requires-3 t c κs = (omega (arith, c .before .before .before .before .before .pre .0, (c .before .before .before .before .before .pre .1 .given) .input .small, some-depth ((c .before .before .before .before .before .pre .1 .given) .input), some-size ((c .before .before .before .before .before .pre .1 .given) .input)), inner-given (c .before .before .before .before .before .pre .1 .given))
 
 reduce-rewritten-close-template-requires : (t : ℕ) → reduce-rewritten-lts.Need-close-template-requires (reduce-rewritten-calls t) (reduce-rewritten-at t) reduce-rewritten.Post
-reduce-rewritten-close-template-requires t c κs = walked-given (c .before .before .before .reduce-children3 .ensures) (c .before .before .before .before .before .before .before .before .before .pre .1 .given) (c .before .before .before .reduce-children3 .kept .1 .1 .1 .1 .1 .1 .0)
+reduce-rewritten-close-template-requires t c κs = walked-given (c .before .before .before .reduce-children3 .ensures) (c .before .before .before .before .before .before .before .before .before .pre .1 .given) refl
 
 reduce-rewritten-enum-told-4 : (t : ℕ) → reduce-rewritten-lts.Need-enum-told-4 (reduce-rewritten-calls t) (reduce-rewritten-at t) reduce-rewritten.Post
 reduce-rewritten-enum-told-4 t c = search needs
@@ -252,7 +253,7 @@ reduce-rewritten-reduce-children-requires-4 : (t : ℕ) → reduce-rewritten-lts
 reduce-rewritten-reduce-children-requires-4 t c κs = (omega (arith, c .before .before .before .before .before .pre .0, (c .before .before .before .before .before .pre .1 .given) .input .small, some-depth ((c .before .before .before .before .before .pre .1 .given) .input), some-size ((c .before .before .before .before .before .pre .1 .given) .input)), inner-given (c .before .before .before .before .before .pre .1 .given))
 
 reduce-rewritten-close-object-requires : (t : ℕ) → reduce-rewritten-lts.Need-close-object-requires (reduce-rewritten-calls t) (reduce-rewritten-at t) reduce-rewritten.Post
-reduce-rewritten-close-object-requires t c κs = walked-given (c .before .before .before .reduce-children4 .ensures) (c .before .before .before .before .before .before .before .before .before .pre .1 .given) (c .before .before .before .reduce-children4 .kept .1 .1 .1 .1 .1 .1 .0)
+reduce-rewritten-close-object-requires t c κs = walked-given (c .before .before .before .reduce-children4 .ensures) (c .before .before .before .before .before .before .before .before .before .pre .1 .given) refl
 
 reduce-rewritten-enum-told-5 : (t : ℕ) → reduce-rewritten-lts.Need-enum-told-5 (reduce-rewritten-calls t) (reduce-rewritten-at t) reduce-rewritten.Post
 reduce-rewritten-enum-told-5 t c = search needs
@@ -261,7 +262,7 @@ reduce-rewritten-reduce-children-requires-5 : (t : ℕ) → reduce-rewritten-lts
 reduce-rewritten-reduce-children-requires-5 t c κs = (omega (arith, c .before .before .before .before .before .pre .0, (c .before .before .before .before .before .pre .1 .given) .input .small, some-depth ((c .before .before .before .before .before .pre .1 .given) .input), some-size ((c .before .before .before .before .before .pre .1 .given) .input)), inner-given (c .before .before .before .before .before .pre .1 .given))
 
 reduce-rewritten-join-kept-requires : (t : ℕ) → reduce-rewritten-lts.Need-join-kept-requires (reduce-rewritten-calls t) (reduce-rewritten-at t) reduce-rewritten.Post
-reduce-rewritten-join-kept-requires t c κs = in-order-list (c .before .before .before .reduce-children5 .ensures) (c .before .before .before .before .before .before .before .before .before .pre .1 .given) (c .before .before .before .reduce-children5 .kept .1 .1 .1 .1 .1 .1 .0)
+reduce-rewritten-join-kept-requires t c κs = in-order-list (c .before .before .before .reduce-children5 .ensures) (c .before .before .before .before .before .before .before .before .before .pre .1 .given) refl
 
 reduce-rewritten-same-length : (t : ℕ) → reduce-rewritten-lts.Need-same-length (reduce-rewritten-calls t) (reduce-rewritten-at t) reduce-rewritten.Post
 reduce-rewritten-same-length t c = search needs
@@ -345,7 +346,7 @@ remove-unused-expression-reduce-children-requires-2 : (t : ℕ) → remove-unuse
 remove-unused-expression-reduce-children-requires-2 t c κs = (omega (arith, c .before .before .before .before .before .before .before .pre .0, c .before .before .before .before .before .before .before .pre .1 .input .small, some-depth (c .before .before .before .before .before .before .before .pre .1 .input), some-size (c .before .before .before .before .before .before .before .pre .1 .input)), arguments-given (as-outcome Arguments (c .before .before .enum-told4 .given .1) (c .before .before .before .before .handle .ensures)) _ (c .before .first-size .ensures) (c .before .before .before .before .before .before .before .pre .1))
 
 remove-unused-expression-none-one-several-requires : (t : ℕ) → remove-unused-expression-lts.Need-none-one-several-requires (remove-unused-expression-calls t) (remove-unused-expression-at t) remove-unused-expression.Post
-remove-unused-expression-none-one-several-requires t c κs = arguments-list (as-outcome Arguments (c .before .before .before .before .before .before .enum-told4 .given .1) (c .before .before .before .before .before .before .before .before .handle .ensures)) _ (c .before .before .before .before .before .first-size .ensures) (c .before .before .before .reduce-children2 .ensures) (c .before .before .before .before .before .before .before .before .before .before .before .pre .1) (c .before .before .before .reduce-children2 .kept .1 .1 .1 .1 .1 .1 .0)
+remove-unused-expression-none-one-several-requires t c κs = arguments-list (as-outcome Arguments (c .before .before .before .before .before .before .enum-told4 .given .1) (c .before .before .before .before .before .before .before .before .handle .ensures)) _ (c .before .before .before .before .before .first-size .ensures) (c .before .before .before .reduce-children2 .ensures) (c .before .before .before .before .before .before .before .before .before .before .before .pre .1) refl
 
 remove-unused-expression-enum-told-5 : (t : ℕ) → remove-unused-expression-lts.Need-enum-told-5 (remove-unused-expression-calls t) (remove-unused-expression-at t) remove-unused-expression.Post
 remove-unused-expression-enum-told-5 t c = search needs

@@ -28,7 +28,7 @@ place-at-requires : tie.Need-place-at-requires
 place-at-requires c κs = search needs
 
 flush-object-requires : tie.Need-flush-object-requires
-flush-object-requires c κs = settled-waiting (c .before .before .before .before .before .before .pre .list) (c .place-at .ensures .1)
+flush-object-requires c κs = settled-waiting (c .before .before .before .before .before .before .pre .list)
 
 same-length : tie.Need-same-length
 same-length c = search needs
@@ -52,7 +52,7 @@ same-length-4 : tie.Need-same-length-4
 same-length-4 c = search needs
 
 returns-4 : tie.Need-returns-4
-returns-4 c = settles-as _ (c .before .before .before .before .before .enum-told4 .given .1) (settled-object (c .before .before .before .before .before .before .before .before .before .pre .list) (c .before .before .before .place-at .ensures .0) (c .before .before .flush-object .ensures))
+returns-4 c = settles-as _ (c .before .before .before .before .before .enum-told4 .given .1) (settled-object (c .before .before .before .before .before .before .before .before .before .pre .list) (c .before .before .before .place-at .ensures) (c .before .before .flush-object .ensures))
 
 pub settle-spec : {M : Type 1} → statement M
 settle-spec =

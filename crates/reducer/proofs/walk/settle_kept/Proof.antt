@@ -10,13 +10,13 @@ place-at-requires : tie.Need-place-at-requires
 place-at-requires c κs = settled-inside (c .before .before .before .pre) (c .before .if1 .left)
 
 flush-template-requires : tie.Need-flush-template-requires
-flush-template-requires c κs = settled-waiting (c .before .before .before .before .before .pre) (c .before .place-at .ensures .1)
+flush-template-requires c κs = settled-waiting (c .before .before .before .before .before .pre)
 
 same-length : tie.Need-same-length
 same-length c = search needs
 
 returns-2 : tie.Need-returns-2
-returns-2 c = settled-left (c .before .before .before .before .before .before .if1 .left) (c .before .before .before .before .place-at .ensures .0) (c .before .before .flush-template .ensures)
+returns-2 c = settled-left (c .before .before .before .before .before .before .if1 .left) (c .before .before .before .before .place-at .ensures) (c .before .before .flush-template .ensures)
 
 pub settle-kept-spec : {M : Type 1} → statement M
 settle-kept-spec =

@@ -32,13 +32,13 @@ place-at-requires : tie.Need-place-at-requires
 place-at-requires c κs = c .before .before .before .before .before .before .before .pre .node-inside
 
 make-sequence-requires : tie.Need-make-sequence-requires
-make-sequence-requires c κs = list-made (c .before .before .before .before .before .before .before .before .pre) (c .place-at .ensures .1)
+make-sequence-requires c κs = list-made (c .before .before .before .before .before .before .before .before .pre)
 
 same-length-2 : tie.Need-same-length-2
 same-length-2 c = search needs
 
 returns-3 : tie.Need-returns-3
-returns-3 c = several-left (c .before .before .before .before .before .before .subtree-at .ensures .0) (c .before .before .before .before .before .before .before .before .if1 .left) (c .before .before .before .before .before .if2 .left) (c .before .before .before .place-at .ensures .0) (c .before .before .make-sequence .ensures)
+returns-3 c = several-left (c .before .before .before .before .before .before .subtree-at .ensures .0) (c .before .before .before .before .before .before .before .before .if1 .left) (c .before .before .before .before .before .if2 .left) (c .before .before .before .place-at .ensures) (c .before .before .make-sequence .ensures)
 
 pub none-one-several-spec : {M : Type 1} → statement M
 none-one-several-spec =

@@ -36,13 +36,13 @@ place-at-requires : tie.Need-place-at-requires
 place-at-requires c κs = c .before .before .before .before .before .before .before .before .before .before .pre .node-inside
 
 join-sequence-requires : tie.Need-join-sequence-requires
-join-sequence-requires c κs = pair-given (c .before .before .before .before .before .before .subtree-at .ensures .0) (c .before .before .before .before .before .before .before .before .if1 .left) (c .before .before .before .before .before .if2 .left) _ (c .before .before .before .subtree-at2 .ensures .0) (c .before .before .if3 .taken) (c .before .before .before .before .before .before .before .before .before .before .before .pre) (c .place-at .ensures .1)
+join-sequence-requires c κs = pair-given (c .before .before .before .before .before .before .subtree-at .ensures .0) (c .before .before .before .before .before .before .before .before .if1 .left) (c .before .before .before .before .before .if2 .left) _ (c .before .before .before .subtree-at2 .ensures .0) (c .before .before .if3 .taken) (c .before .before .before .before .before .before .before .before .before .before .before .pre)
 
 same-length-2 : tie.Need-same-length-2
 same-length-2 c = search needs
 
 returns-3 : tie.Need-returns-3
-returns-3 c = join-two (c .before .before .before .before .before .before .before .before .before .subtree-at .ensures .0) (c .before .before .before .before .before .before .before .before .before .before .before .if1 .left) (c .before .before .before .before .before .before .before .before .if2 .left) _ (c .before .before .before .before .before .before .subtree-at2 .ensures .0) (c .before .before .before .before .before .if3 .taken) (c .before .before .before .place-at .ensures .0) (c .before .before .join-sequence .ensures)
+returns-3 c = join-two (c .before .before .before .before .before .before .before .before .before .subtree-at .ensures .0) (c .before .before .before .before .before .before .before .before .before .before .before .if1 .left) (c .before .before .before .before .before .before .before .before .if2 .left) _ (c .before .before .before .before .before .before .subtree-at2 .ensures .0) (c .before .before .before .before .before .if3 .taken) (c .before .before .before .place-at .ensures) (c .before .before .join-sequence .ensures)
 
 none-one-several-requires-2 : tie.Need-none-one-several-requires-2
 none-one-several-requires-2 c κs = search needs

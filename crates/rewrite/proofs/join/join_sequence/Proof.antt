@@ -24,7 +24,7 @@ sub-make-sequence : tie.Need-sub-make-sequence
 sub-make-sequence c = omega (arith, pair-second (c .before .before .before .before .before .before .before .before .before .pre))
 
 make-sequence-requires : tie.Need-make-sequence-requires
-make-sequence-requires c κs = left-given _ refl (c .before .before .before .move-down .ensures) (c .before .before .before .before .before .before .before .before .before .pre) (c .before .before .before .move-down .kept .0)
+make-sequence-requires c κs = left-given _ refl (c .before .before .before .move-down .ensures) (c .before .before .before .before .before .before .before .before .before .pre)
 
 sub-result : tie.Need-sub-result
 sub-result c = omega (arith, pair-second (c .before .before .before .before .before .before .before .before .before .before .before .before .pre))
@@ -51,7 +51,7 @@ sub-make-sequence-2 : tie.Need-sub-make-sequence-2
 sub-make-sequence-2 c = omega (arith, pair-second (c .before .before .before .before .before .before .before .before .before .before .before .before .pre))
 
 make-sequence-requires-2 : tie.Need-make-sequence-requires-2
-make-sequence-requires-2 c κs = right-given _ refl (c .before .before .before .move-down2 .ensures) (c .before .before .before .before .before .before .before .before .before .before .before .before .pre) (c .before .before .before .move-down2 .kept .0)
+make-sequence-requires-2 c κs = right-given _ refl (c .before .before .before .move-down2 .ensures) (c .before .before .before .before .before .before .before .before .before .before .before .before .pre)
 
 sub-result-2 : tie.Need-sub-result-2
 sub-result-2 c = omega (arith, pair-second (c .before .before .before .before .before .before .before .before .before .before .before .before .before .before .before .pre))

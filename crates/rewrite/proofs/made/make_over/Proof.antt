@@ -15,7 +15,7 @@ sub-make-at : tie.Need-sub-make-at
 sub-make-at c = omega (arith, made-after (c .before .before .before .before .pre))
 
 make-at-requires : tie.Need-make-at-requires
-make-at-requires c κs = (omega (arith, made-after (c .before .before .before .before .pre), c .before .before .before .before .pre .inside), c .before .before .before .before .pre .place-small, made-few (c .before .before .before .before .pre) (c .before .count-trees .ensures), omega (arith, c .before .before .before .before .pre .small))
+make-at-requires c κs = (omega (arith, made-after (c .before .before .before .before .pre), c .before .before .before .before .pre .inside), made-few (c .before .before .before .before .pre) (c .before .count-trees .ensures), omega (arith, c .before .before .before .before .pre .small))
 
 same-length : tie.Need-same-length
 same-length c = search needs

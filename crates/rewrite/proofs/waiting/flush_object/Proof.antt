@@ -9,13 +9,13 @@ add-flag-of : tie.Need-add-flag-of
 add-flag-of c = search needs
 
 flag-of-requires : tie.Need-flag-of-requires
-flag-of-requires c κs = made-spanned (waiting-given makeObject (c .before .before .before .pre) (c .before .if1 .taken))
+flag-of-requires c κs = made-spanned (waiting-given (c .before .before .before .pre) (c .before .if1 .taken))
 
 cast-make-over : tie.Need-cast-make-over
 cast-make-over c = search needs
 
 make-over-requires : tie.Need-make-over-requires
-make-over-requires c κs = waiting-given makeObject (c .before .before .before .before .before .pre) (c .before .before .before .if1 .taken)
+make-over-requires c κs = waiting-given (c .before .before .before .before .before .pre) (c .before .before .before .if1 .taken)
 
 same-length : tie.Need-same-length
 same-length c = search needs

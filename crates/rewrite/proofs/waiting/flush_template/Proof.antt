@@ -9,7 +9,7 @@ cast-make-over : tie.Need-cast-make-over
 cast-make-over c = search needs
 
 make-over-requires : tie.Need-make-over-requires
-make-over-requires c κs = waiting-given makeTemplate (c .before .before .before .pre) (c .before .if1 .taken)
+make-over-requires c κs = waiting-given (c .before .before .before .pre) (c .before .if1 .taken)
 
 same-length : tie.Need-same-length
 same-length c = search needs

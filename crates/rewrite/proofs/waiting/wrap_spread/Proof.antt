@@ -1,4 +1,5 @@
 use mathlib.Core.Path.{refl}
+use native.Mathlib.Omega.{arith}
 use Rattle.rewrite.specs.Waiting.{wrapped-gone, wrapped-kept}
 use borrow.Author.Needs.{needs}
 use Rattle.rewrite.proofs.waiting.wrap_spread.Statement.{statement}
@@ -23,13 +24,13 @@ add-make-at : tie.Need-add-make-at
 add-make-at c = search needs
 
 make-at-requires : tie.Need-make-at-requires
-make-at-requires c κs = search needs
+make-at-requires c κs = omega (arith, c .before .before .before .before .copy-tree .ensures .frame .room)
 
 same-length : tie.Need-same-length
 same-length c = search needs
 
 returns : tie.Need-returns
-returns c = wrapped-kept (c .before .before .before .before .before .before .before .before .before .before .flagged-at .ensures) (c .before .before .before .before .before .before .before .before .before .if1 .taken) (c .before .before .before .before .before .before .before .copy-tree .ensures) (c .before .before .before .place-at .ensures .0) refl (c .before .before .make-at .ensures)
+returns c = wrapped-kept (c .before .before .before .before .before .before .before .before .before .before .flagged-at .ensures) (c .before .before .before .before .before .before .before .before .before .if1 .taken) (c .before .before .before .before .before .before .before .copy-tree .ensures) (c .before .before .before .place-at .ensures) refl (c .before .before .make-at .ensures)
 
 returns-2 : tie.Need-returns-2
 returns-2 c = wrapped-gone (c .before .flagged-at .ensures) (c .if1 .left)

@@ -1,0 +1,31 @@
+-- Where each field of a record starts, counted from the record's first byte: "byte 0 kind, 1 facts, 2 sub, 3 zero, 4–5 children, 6–7
+-- records in the subtree with itself, 8–11 text, 12–15 place".
+use Prim.Native.Nat.{ℕ}
+
+abbrev pub kind : ℕ
+kind = 0
+
+abbrev pub facts : ℕ
+facts = 1
+
+abbrev pub sub : ℕ
+sub = 2
+
+abbrev pub reserved : ℕ
+reserved = 3
+
+abbrev pub children : ℕ
+children = 4
+
+abbrev pub subtree : ℕ
+subtree = 6
+
+abbrev pub text : ℕ
+text = 8
+
+abbrev pub place : ℕ
+place = 12
+
+-- The byte behind the last field.
+abbrev pub behind : ℕ
+behind = 16
