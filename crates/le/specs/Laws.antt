@@ -33,10 +33,6 @@ pub u32-same : (s s′ : List ℕ) (p q : ℕ) → u16At s′ q ≡ u16At s p �
 unfolding u32At
 u32-same s s′ p q a b = cc
 
-pub length-set32 : (s : List ℕ) (p v : ℕ) → length (set32 s p v) ≡ length s
-unfolding set32
-length-set32 s p v = simp length-set16
-
 pub getD-set32-other : (s : List ℕ) (p v k : ℕ) → (k < p) ⊎ (p + 4 ≤ k) → getD (set32 s p v) k 0 ≡ getD s k 0
 unfolding set32
 getD-set32-other s p v k o = ⊎-elim (λ (h : k < p). go (omega arith) (omega arith) (omega arith) (omega arith)) (λ (h : p + 4 ≤ k). go (omega arith) (omega arith) (omega arith) (omega arith)) o
