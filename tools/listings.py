@@ -8,8 +8,8 @@
   listings.py names        a line for each case: what it is
 
 What is printed for a case: `count` and how many effects it has, then a line for each, place/kind/coercion;
-or `refused` and the number. The stored output of the program is made by the plain port of the judges
-(`driver listings`), which shares no code with the proved crates; `check` holds it to the answers here.
+or `refused` and the number. The stored output of the program is made by the plain port (`driver
+listings` of differential/), which shares no code with the proved crates; `check` holds it to the answers here.
 
 No case is refused with 10: the program lends entries enough for any file.
 """

@@ -6,7 +6,7 @@
 
 The examples; the cases of listings.py and reductions.py, which are the stored input of the programs
 `listings` and `reductions`; two files with single bytes changed; and files about as long as a program
-reads, and longer. `driver programs` of the judges has the answers, and names a file by its number here.
+reads, and longer. `driver programs` of differential/ has the answers, and names a file by its number here.
 """
 
 import sys

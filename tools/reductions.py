@@ -10,8 +10,8 @@
 What is printed for a case: `refused` and the number, `removable`, or `kept` and the length, then the
 rewritten file in hexadecimal, a line for the header and a line for each record; and behind any of
 them `tail`, how many lent bytes stand behind the answer, and how many of these have changed, which
-is 0 always. The stored output of the program is made by the plain port of the judges (`driver
-reductions`), which shares no code with the proved crates; `check` holds it to the answers here.
+is 0 always. The stored output of the program is made by the plain port (`driver reductions` of
+differential/), which shares no code with the proved crates; `check` holds it to the answers here.
 
 An answer by hand is a tree that stands beside the case, or in a family of cases is built beside it:
 this script has no Reduce. Only the flag of a made node follows from its children (`made`).

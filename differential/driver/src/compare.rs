@@ -1,0 +1,330 @@
+//! Holds the sides to each other and to what document 01 promises of every answer.
+
+use port::Limits;
+
+use crate::damage::Damaged;
+use crate::file;
+use crate::hits::{self, Hits};
+use crate::oracle::Oracle;
+use crate::random::Random;
+use crate::side::{Answer, Listing, Reduction, Side};
+
+/// What was seen to differ, or a promise that was not kept.
+pub type Difference = String;
+
+pub struct Comparator<'s> {
+    /// The first is held to the others.
+    sides: &'s [&'s dyn Side],
+    oracle: Option<Oracle>,
+    /// Accepted files and the first side's answers, for the oracle.
+    waiting: (Vec<Vec<u8>>, Vec<Vec<u8>>),
+    bytes: Filler<u8>,
+    entries: Filler<u64>,
+    pub tally: Tally,
+}
+
+/// What is in the outputs and entries when they are lent. It changes from place to place and from
+/// call to call, so that what a side moves past its answer shows as well as what it writes there,
+/// and no answer can be made of what was there.
+struct Filler<T>(Vec<T>);
+
+/// More than a run ever lends at once.
+const LENT: usize = 1 << 18;
+
+impl<T: Copy> Filler<T> {
+    fn new(drawn: impl Fn(u64) -> T) -> Filler<T> {
+        let mut random = Random::new(0);
+        Filler((0..LENT).map(|_| drawn(random.draw())).collect())
+    }
+
+    /// As many as are lent, from another start at each turn.
+    fn part(&self, turn: u64, room: usize) -> &[T] {
+        let starts = (LENT - room) as u64;
+        let start = turn.wrapping_mul(0x9e37_79b9) % starts;
+        &self.0[start as usize..][..room]
+    }
+}
+
+/// What a run has met.
+#[derive(Default)]
+pub struct Tally {
+    /// Single comparisons and promises that held.
+    pub checks: u64,
+    pub trees: u64,
+    pub damaged: u64,
+    /// Damaged files that Reduce refused, and those that List effects refused.
+    pub refused_reductions: u64,
+    pub refused_lists: u64,
+    pub oracle_trees: u64,
+    /// Reductions of another side that were held to the first's, refused ones too, and the bytes
+    /// lent for them: all are compared, also those after the answer.
+    pub reductions: u64,
+    pub bytes: u64,
+    /// The same for lists and their entries.
+    pub lists: u64,
+    pub entries: u64,
+    pub premise_true: u64,
+    pub premise_false: u64,
+    pub removable: u64,
+    pub kept: u64,
+    /// Refusals met, by number.
+    pub refused: [u64; 13],
+    pub hits: Hits,
+}
+
+/// How many trees the oracle is asked about at once.
+const BATCH: usize = 256;
+
+impl<'s> Comparator<'s> {
+    pub fn new(sides: &'s [&'s dyn Side], oracle: Option<Oracle>) -> Self {
+        Comparator {
+            sides,
+            oracle,
+            waiting: Default::default(),
+            bytes: Filler::new(|drawn| drawn as u8),
+            entries: Filler::new(|drawn| drawn),
+            tally: Tally::default(),
+        }
+    }
+
+    /// One check: `held`, or the words that say what was seen.
+    fn check(&mut self, held: bool, seen: impl FnOnce() -> String) -> Result<(), Difference> {
+        self.tally.checks += 1;
+        if held { Ok(()) } else { Err(seen()) }
+    }
+
+    /// The file must be accepted, and every promise of document 01 hold of the answer.
+    pub fn accepted(&mut self, file: &[u8], more_room: usize) -> Result<(), Difference> {
+        self.tally.trees += 1;
+        self.checked(file, 0, 0)?;
+        let (reduction, answer) = self.reduce(file, file::output_room(file) + more_room)?;
+        let (listing, effects) = self.list(file, 2 * file::count(file) + more_room)?;
+        let numbers = (reduction.number, listing.number);
+        self.check(numbers == (0, 0), || format!("an accepted file is refused: {numbers:?}"))?;
+        let effects_after = if answer.is_empty() {
+            self.tally.removable += 1;
+            Vec::new()
+        } else {
+            self.tally.kept += 1;
+            self.kept(file, &answer)?
+        };
+        self.demand_3(file, &effects, &effects_after)?;
+        if self.oracle.is_some() {
+            self.waiting.0.push(file.to_vec());
+            self.waiting.1.push(answer);
+            if self.waiting.0.len() == BATCH {
+                self.ask_oracle()?;
+            }
+        }
+        Ok(())
+    }
+
+    /// The sides must answer this file with these bytes; none: removable.
+    pub fn answers(&mut self, file: &[u8], expected: &[u8]) -> Result<(), Difference> {
+        self.accepted(file, 0)?;
+        let (_, answer) = self.reduce(file, file::output_room(file))?;
+        self.check(answer == expected, || {
+            format!("{}{}", file::show(file), reduced_otherwise("the list", expected, &answer))
+        })
+    }
+
+    /// The sides must list these effects.
+    pub fn effects(&mut self, file: &[u8], expected: &[u64]) -> Result<(), Difference> {
+        let (_, effects) = self.list(file, 2 * file::count(file))?;
+        self.check(effects == expected, || format!("effects {effects:?}, not {expected:?}"))
+    }
+
+    /// What holds of every kept answer: it is a tree file under the same settings, with at most
+    /// 2 × N − 1 records and at most one level more, and the listing takes it. Answers with its
+    /// effects.
+    fn kept(&mut self, file: &[u8], answer: &[u8]) -> Result<Vec<u64>, Difference> {
+        self.check(answer[..6] == file[..6], || "the header is not copied".to_string())?;
+        let (before, after) = (file::count(file), file::count(answer));
+        let length = file::HEADER + file::RECORD * after;
+        self.check(answer.len() == length, || {
+            format!("{} bytes for {after} records", answer.len())
+        })?;
+        self.check(after < 2 * before, || format!("{after} records from {before}"))?;
+        let (listing, effects) = self.list(answer, 2 * after)?;
+        self.check(listing.number == 0, || format!("the listing refuses: {}", listing.number))?;
+        let depths = (file::depth(file), file::depth(answer));
+        self.check(depths.1 <= depths.0 + 1, || format!("depth {} from {}", depths.1, depths.0))?;
+        Ok(effects)
+    }
+
+    /// "Demand 3 compares the accepted tree's list with the kept answer's, in length and at every
+    /// entry", where each clear flag that was read is true.
+    fn demand_3(&mut self, file: &[u8], before: &[u64], after: &[u64]) -> Result<(), Difference> {
+        let tree =
+            port::check(file, Limits::REDUCE).map_err(|n| format!("the port refuses: {n}"))?;
+        let marks = port::outcomes(tree);
+        self.tally.hits.add(&hits::of_tree(tree, &marks));
+        if !port::premise(tree, &marks) {
+            self.tally.premise_false += 1;
+            return Ok(());
+        }
+        self.tally.premise_true += 1;
+        self.check(before == after, || format!("effects {before:?} become {after:?}"))
+    }
+
+    /// The file must be refused by the numbers that its damage calls for.
+    pub fn refused(&mut self, case: &Damaged) -> Result<(), Difference> {
+        self.tally.damaged += 1;
+        let (reduction, _) = self.reduce(&case.file, case.output_room)?;
+        let (listing, _) = self.list(&case.file, case.entry_room)?;
+        let seen = (reduction.number, listing.number);
+        let due = (case.reduce, case.list);
+        self.check(seen == due, || format!("refused by {seen:?}, where {due:?} is due"))?;
+        if (1..=8).contains(&case.reduce) {
+            let list = if case.list > 8 { 0 } else { case.list };
+            self.checked(&case.file, case.reduce, list)?;
+        }
+        self.tally.refused_reductions += u64::from(case.reduce != 0);
+        self.tally.refused_lists += u64::from(case.list != 0);
+        self.tally.refused[case.reduce as usize] += 1;
+        if case.list != case.reduce {
+            self.tally.refused[case.list as usize] += 1;
+        }
+        Ok(())
+    }
+
+    /// The sides must answer this file alike; of what number, the first decides.
+    pub fn alike(
+        &mut self,
+        file: &[u8],
+        output_room: usize,
+        entry_room: usize,
+    ) -> Result<(), Difference> {
+        self.reduce(file, output_room)?;
+        self.list(file, entry_room)?;
+        Ok(())
+    }
+
+    /// The check by itself, of the sides that offer it.
+    fn checked(&mut self, file: &[u8], reduce: u8, list: u8) -> Result<(), Difference> {
+        for &side in self.sides {
+            let seen = (side.check(file, Limits::REDUCE), side.check(file, Limits::LIST_EFFECTS));
+            let due = (seen.0.map(|_| reduce), seen.1.map(|_| list));
+            let name = side.name();
+            self.check(seen == due, || format!("{name} checks {seen:?}, where {due:?} is due"))?;
+        }
+        Ok(())
+    }
+
+    /// Every side reduces the file into as many bytes, and all answer alike. Answers with the bytes
+    /// written.
+    fn reduce(&mut self, file: &[u8], room: usize) -> Result<(Reduction, Vec<u8>), Difference> {
+        let mut first: Option<(Reduction, Vec<u8>)> = None;
+        for &side in self.sides {
+            let filler = self.bytes.part(self.tally.checks, room);
+            let mut out = filler.to_vec();
+            let reduction = side.reduce(file, &mut out);
+            let name = side.name();
+            let length = reduction.length;
+            let untouched = length <= room && out[length..] == filler[length..];
+            self.check(untouched, || format!("{name} wrote past its answer: {reduction:?}"))?;
+            out.truncate(reduction.length);
+            match &first {
+                None => first = Some((reduction, out)),
+                Some(other) => {
+                    let same = *other == (reduction, out.clone());
+                    self.check(same, || {
+                        let answers = reduced_otherwise(name, &out, &other.1);
+                        format!("{name} {reduction:?}, the first side {:?}: {answers}", other.0)
+                    })?;
+                    self.tally.reductions += 1;
+                    self.tally.bytes += room as u64;
+                }
+            }
+        }
+        Ok(first.expect("a side"))
+    }
+
+    /// The same for List effects.
+    fn list(&mut self, file: &[u8], room: usize) -> Result<(Listing, Vec<u64>), Difference> {
+        let mut first: Option<(Listing, Vec<u64>)> = None;
+        for &side in self.sides {
+            let filler = self.entries.part(self.tally.checks, room);
+            let mut entries = filler.to_vec();
+            let listing = side.list_effects(file, &mut entries);
+            let name = side.name();
+            let count = listing.count;
+            let untouched = count <= room && entries[count..] == filler[count..];
+            self.check(untouched, || format!("{name} wrote past its list: {listing:?}"))?;
+            entries.truncate(listing.count);
+            match &first {
+                None => first = Some((listing, entries)),
+                Some(other) => {
+                    let same = *other == (listing, entries.clone());
+                    self.check(same, || {
+                        format!("{name} answers {listing:?} {entries:?}, not {other:?}")
+                    })?;
+                    self.tally.lists += 1;
+                    self.tally.entries += room as u64;
+                }
+            }
+        }
+        Ok(first.expect("a side"))
+    }
+
+    /// Every side answers alike.
+    pub fn derived(&mut self, scopes: &[u8], ancestors: &[u8]) -> Result<Answer, Difference> {
+        let sides = self.sides;
+        let first = sides[0].derived(scopes, ancestors);
+        for &side in &sides[1..] {
+            let answer = side.derived(scopes, ancestors);
+            let name = side.name();
+            self.check(answer == first, || {
+                format!("{name} answers {answer:?} to {scopes:?} {ancestors:?}, not {first:?}")
+            })?;
+        }
+        Ok(first)
+    }
+
+    /// Counts a check made outside.
+    pub fn hold(&mut self, held: bool, seen: impl FnOnce() -> String) -> Result<(), Difference> {
+        self.check(held, seen)
+    }
+
+    /// Asks the oracle about the trees that wait.
+    fn ask_oracle(&mut self) -> Result<(), Difference> {
+        let (files, answers) = std::mem::take(&mut self.waiting);
+        let Some(oracle) = &mut self.oracle else { return Ok(()) };
+        let theirs = oracle.reduce(&files).map_err(|error| format!("the oracle: {error}"))?;
+        for ((file, ours), theirs) in files.iter().zip(&answers).zip(&theirs) {
+            self.tally.oracle_trees += 1;
+            self.check(ours == theirs, || {
+                let answers = reduced_otherwise("the oracle", theirs, ours);
+                format!(
+                    "the oracle, asked about the trees up to this one, differs on:\n{}{answers}",
+                    file::show(file)
+                )
+            })?;
+        }
+        Ok(())
+    }
+
+    pub fn oracle(&mut self) -> Option<&mut Oracle> {
+        self.oracle.as_mut()
+    }
+
+    /// Asks the oracle about the last trees, and ends it.
+    pub fn finish(mut self) -> Result<Tally, Difference> {
+        if !self.waiting.0.is_empty() {
+            self.ask_oracle()?;
+        }
+        if let Some(oracle) = self.oracle {
+            oracle.stop().map_err(|error| error.to_string())?;
+        }
+        Ok(self.tally)
+    }
+}
+
+fn reduced_otherwise(name: &str, out: &[u8], other: &[u8]) -> String {
+    let shown = |file: &[u8]| match file::is_whole(file) {
+        _ if file.is_empty() => "nothing\n".to_string(),
+        true => file::show(file),
+        false => format!("{file:?}\n"),
+    };
+    format!("{name} answers {}where the first side answers {}", shown(out), shown(other))
+}

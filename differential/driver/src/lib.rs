@@ -1,0 +1,32 @@
+//! Holds every side of document 01 to the others: see the README beside this crate.
+
+#![forbid(unsafe_code)]
+
+pub mod bench;
+pub mod compare;
+pub mod damage;
+pub mod derived;
+#[cfg(feature = "library")]
+pub mod faulty;
+pub mod file;
+pub mod fixed;
+#[cfg(feature = "library")]
+pub mod guarded;
+pub mod hits;
+#[cfg(feature = "library")]
+pub mod hostile;
+#[cfg(feature = "library")]
+pub mod library;
+pub mod listings;
+pub mod oracle;
+pub mod programs;
+pub mod random;
+pub mod reduced;
+pub mod reductions;
+pub mod rows;
+pub mod run;
+pub mod side;
+pub mod speed;
+pub mod trees;
+#[cfg(feature = "library")]
+pub mod under_damage;

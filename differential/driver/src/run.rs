@@ -1,0 +1,139 @@
+//! What a run goes through.
+
+use port::Limits;
+
+use crate::compare::{Comparator, Difference, Tally};
+use crate::damage::{self, Damaged};
+use crate::derived;
+use crate::file;
+use crate::fixed::Case;
+use crate::hits::LEAST;
+use crate::oracle::Oracle;
+use crate::random::Random;
+use crate::rows;
+use crate::trees;
+
+/// The tree of number `i` under this seed: every other one is made premise-true.
+pub fn tree(seed: u64, i: u64) -> (Vec<u8>, Random) {
+    let mut random = Random::new(seed ^ i.wrapping_mul(0xd134_2543_de82_ef95));
+    let mut file = trees::file(&mut random);
+    if i.is_multiple_of(2) {
+        trees::make_premise_true(&mut file);
+    }
+    (file, random)
+}
+
+/// What every file that Reduce takes has room in; now and then as much is lent.
+const MOST_OUT: usize = file::HEADER + file::RECORD * (2 * Limits::REDUCE.records - 1);
+
+/// Holds the sides to each other on the tree of number `i` and on a damaged copy.
+pub fn case(comparator: &mut Comparator, seed: u64, i: u64) -> Result<(), Difference> {
+    let (file, mut random) = tree(seed, i);
+    let named = |difference: Difference| {
+        format!("seed {seed}, tree {i}:\n{}{difference}", file::show(&file))
+    };
+    let little = random.pick(&[0, 0, 1, 7, 40]);
+    let more_room = if i % 256 == 255 { MOST_OUT - file::output_room(&file) } else { little };
+    comparator.accepted(&file, more_room).map_err(named)?;
+    let damaged = damage::damaged(&mut random, &file);
+    comparator
+        .refused(&damaged)
+        .map_err(|difference| format!("seed {seed}, damaged copy {i}: {difference}"))
+}
+
+pub fn cases(comparator: &mut Comparator, seed: u64, count: u64) -> Result<(), Difference> {
+    (0..count).try_for_each(|i| case(comparator, seed, i))
+}
+
+/// Rows A to L, corners, and the effects that document 01 prints for `[1, a(), ...b]`.
+pub fn rows(comparator: &mut Comparator) -> Result<(), Difference> {
+    for (row, tree, answer) in rows::rows() {
+        let expected = answer.map_or_else(Vec::new, |answer| answer.file());
+        comparator.answers(&tree.file(), &expected).map_err(|seen| format!("row {row}: {seen}"))?;
+    }
+    for (corner, tree, answer) in rows::corners() {
+        let held = comparator.answers(&tree.file(), &answer.file());
+        held.map_err(|seen| format!("{corner}: {seen}"))?;
+    }
+    let (tree, answer, effects) = rows::example();
+    comparator.answers(&tree.file(), &answer.file())?;
+    comparator.effects(&tree.file(), &effects)?;
+    comparator.effects(&answer.file(), &effects)
+}
+
+/// The oracle's answers, as listed.
+pub fn fixed_list(comparator: &mut Comparator, cases: &[Case]) -> Result<(), Difference> {
+    for (i, case) in cases.iter().enumerate() {
+        comparator.answers(&case.file, &case.answer).map_err(|seen| format!("case {i}: {seen}"))?;
+    }
+    Ok(())
+}
+
+/// "Edges: N 2,000 taken, 2,001 refused 4; depth 64 taken, 65 refused 8; N = 1 needs 24 bytes, 23
+/// is 9." The listing's limits are 3,999 and 65.
+pub fn edges(comparator: &mut Comparator) -> Result<(), Difference> {
+    let mut random = Random::new(1);
+    for records in [1, 2, Limits::REDUCE.records] {
+        let file = trees::wide_file(&mut random, records);
+        comparator.accepted(&file, 0)?;
+        let (output_room, entry_room) = (file::output_room(&file), 2 * records);
+        comparator.refused(&Damaged::short(file.clone(), output_room - 1, entry_room, 9, 0))?;
+        comparator.refused(&Damaged::short(file, output_room, entry_room - 1, 0, 10))?;
+    }
+    let deepest = trees::deep_file(&mut random, Limits::REDUCE.depth);
+    comparator.accepted(&deepest, 0)?;
+    for (records, list) in [(2_001, 0), (3_999, 0), (4_000, 4)] {
+        let file = trees::wide_file(&mut random, records);
+        comparator.refused(&Damaged::whole(file, 4, list))?;
+    }
+    for (depth, list) in [(65, 0), (66, 8)] {
+        let file = trees::deep_file(&mut random, depth);
+        comparator.refused(&Damaged::whole(file, 8, list))?;
+    }
+    Ok(())
+}
+
+/// The Derived question over its whole set, and with refused bytes. Answers with the number of
+/// questions of the whole set.
+pub fn derived_questions(comparator: &mut Comparator, seed: u64) -> Result<u64, Difference> {
+    let questions = derived::all(comparator)?;
+    let mut random = Random::new(seed);
+    (0..4 * LEAST).try_for_each(|_| derived::refused(comparator, &mut random))?;
+    Ok(questions)
+}
+
+/// What only left-out handlers call is unreachable: an oracle that comes to such a kind must fail,
+/// and name its handler.
+pub fn left_out_kinds(comparator: &mut Comparator, oracle: &str) -> Result<(), Difference> {
+    for (kind, handler) in [(20, "logical"), (21, "conditional"), (22, "assignment")] {
+        let mut file = trees::deep_file(&mut Random::new(1), 1);
+        file::record_mut(&mut file, 0)[..3].copy_from_slice(&[kind, 1, 0]);
+        let said = Oracle::failure(oracle, &file).map_err(|error| error.to_string())?;
+        comparator
+            .hold(said.contains(handler), || format!("kind {kind}: the oracle says {said}"))?;
+    }
+    Ok(())
+}
+
+/// A run that met anything less than 1,000 times shows too little.
+pub fn met_enough(tally: &Tally) -> Result<(), Difference> {
+    let rare = |what: &str, count: u64| format!("met {count} times only: {what}");
+    if let Some((words, count)) = tally.hits.under(LEAST).next() {
+        return Err(rare(words, count));
+    }
+    for (number, &count) in tally.refused.iter().enumerate().skip(1) {
+        if count < LEAST {
+            return Err(rare(&format!("refusal {number}"), count));
+        }
+    }
+    let others = [
+        ("premise true", tally.premise_true),
+        ("premise not true", tally.premise_false),
+        ("removable", tally.removable),
+        ("kept", tally.kept),
+    ];
+    match others.into_iter().find(|&(_, count)| count < LEAST) {
+        Some((what, count)) => Err(rare(what, count)),
+        None => Ok(()),
+    }
+}

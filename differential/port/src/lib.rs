@@ -1,0 +1,24 @@
+//! Document 01 in plain Rust, over the flat bytes and without allocation.
+//!
+//! The port is the baseline for speed and the reference for refusals and effects. It is written
+//! from document 01, in the order of its sections: the tree file (`tree`), the refusals (`check`),
+//! the handlers (`outcome` decides, `reduce` writes), the effect list (`effects`), the Derived
+//! question (`derived`) and the premise of demand 3 (`premise`).
+
+#![forbid(unsafe_code)]
+
+mod check;
+mod derived;
+mod effects;
+mod outcome;
+mod premise;
+mod reduce;
+mod tree;
+
+pub use check::{Limits, check};
+pub use derived::{Derived, derived};
+pub use effects::{Listed, list_effects};
+pub use outcome::{Marks, Outcome, outcomes};
+pub use premise::{Read, premise, reads};
+pub use reduce::{Reduced, reduce};
+pub use tree::{Record, Tree, element, kind, sub};

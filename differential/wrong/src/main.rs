@@ -1,0 +1,182 @@
+//! Deliberately wrong ports, each a copy of the port with an edit of a line or two: the driver must
+//! find every one. The edits stand apart from the port, so that the port has no hooks for them.
+//!
+//! `wrong [--trees N] [--seed S] [--oracle PATH]` prints how many trees (each with a damaged copy
+//! and two Derived questions) it takes until the wrong port differs from the port; until a promise
+//! that holds of every answer is broken, with no other side at hand; where the oracle can see it,
+//! until it differs from the oracle; and how many cases of the fixed list it takes.
+
+use driver::compare::{Comparator, Difference};
+use driver::fixed::Case;
+use driver::oracle::Oracle;
+use driver::random::Random;
+use driver::side::{Answer, Listing, Port, Reduction, Side};
+use driver::{derived, file, fixed, run};
+use port::Limits;
+use std::panic::{self, AssertUnwindSafe};
+use std::process::ExitCode;
+use std::{env, io};
+
+pub struct Wrong {
+    side: &'static dyn Side,
+    why: &'static str,
+    /// Its answers to accepted trees or to the Derived question are wrong: the oracle can see it.
+    oracle: bool,
+}
+
+macro_rules! wrong {
+    ($port:ident, $why:literal, $oracle:literal) => {{
+        struct This;
+
+        impl Side for This {
+            fn name(&self) -> &str {
+                stringify!($port)
+            }
+
+            fn reduce(&self, file: &[u8], out: &mut [u8]) -> Reduction {
+                match $port::reduce(file, out) {
+                    $port::Reduced::Refused(number) => Reduction { number, length: 0 },
+                    $port::Reduced::Removable => Reduction { number: 0, length: 0 },
+                    $port::Reduced::Kept(length) => Reduction { number: 0, length },
+                }
+            }
+
+            fn list_effects(&self, file: &[u8], entries: &mut [u64]) -> Listing {
+                match $port::list_effects(file, entries) {
+                    $port::Listed::Refused(number) => Listing { number, count: 0 },
+                    $port::Listed::Count(count) => Listing { number: 0, count },
+                }
+            }
+
+            fn derived(&self, scopes: &[u8], ancestors: &[u8]) -> Answer {
+                match $port::derived(scopes, ancestors) {
+                    $port::Derived::Yes => Answer::Yes,
+                    $port::Derived::No => Answer::No,
+                    $port::Derived::Refused(number) => Answer::Refused(number),
+                }
+            }
+
+            /// Not offered: a wrong check must be found by what the operations answer.
+            fn check(&self, _: &[u8], _: Limits) -> Option<u8> {
+                None
+            }
+        }
+
+        Wrong { side: &This, why: $why, oracle: $oracle }
+    }};
+}
+
+include!(concat!(env!("OUT_DIR"), "/all.rs"));
+
+/// The trees to look through.
+#[derive(Clone, Copy)]
+struct Trees {
+    seed: u64,
+    count: u64,
+}
+
+fn main() -> ExitCode {
+    let words: Vec<String> = env::args().collect();
+    let value = |name: &str| words.iter().skip_while(|word| *word != name).nth(1);
+    let number = |name: &str| value(name).and_then(|text| text.parse().ok());
+    let trees =
+        Trees { seed: number("--seed").unwrap_or(1), count: number("--trees").unwrap_or(20_000) };
+    let oracle = value("--oracle").map(|path| OracleSays::ask(path, trees).expect("the oracle"));
+    let list = fixed::decode(fixed::LIST).expect("the fixed list");
+    // A panic of a wrong port is a finding, not an event.
+    panic::set_hook(Box::new(|_| {}));
+    let all = all();
+    let mut found = 0;
+    println!("{:>8} {:>8} {:>8} {:>8}", "port", "alone", "oracle", "list");
+    for wrong in &all {
+        let by_port = search(&[&Port, wrong.side], trees);
+        let alone = search(&[wrong.side], trees);
+        let by_oracle =
+            oracle.as_ref().filter(|_| wrong.oracle).map(|oracle| oracle.search(wrong.side));
+        found += usize::from(by_port.is_some() && by_oracle != Some(None));
+        let by_oracle = by_oracle.map_or("-".to_string(), shown);
+        let by_list = search_list(wrong.side, &list);
+        let (by_port, alone, by_list) = (shown(by_port), shown(alone), shown(by_list));
+        println!("{by_port:>8} {alone:>8} {by_oracle:>8} {by_list:>8}  {}", wrong.why);
+    }
+    println!("wrong ports: {found} of {} found", all.len());
+    if found == all.len() { ExitCode::SUCCESS } else { ExitCode::FAILURE }
+}
+
+fn shown(trees: Option<u64>) -> String {
+    trees.map_or("none".to_string(), |trees| trees.to_string())
+}
+
+/// How many trees it takes until the last side is found wrong; a panic counts.
+fn search(sides: &[&dyn Side], trees: Trees) -> Option<u64> {
+    let mut comparator = Comparator::new(sides, None);
+    let mut random = Random::new(trees.seed);
+    first(trees.count, |i| held(&mut comparator, &mut random, trees.seed, i).is_ok())
+}
+
+/// The number, from 1, of the first of `count` tries that does not hold; a panic does not.
+fn first(count: u64, mut holds: impl FnMut(u64) -> bool) -> Option<u64> {
+    let failed = |i: &u64| !panic::catch_unwind(AssertUnwindSafe(|| holds(*i))).unwrap_or(false);
+    (0..count).find(failed).map(|i| i + 1)
+}
+
+/// How many cases of the fixed list it takes.
+fn search_list(side: &dyn Side, list: &[Case]) -> Option<u64> {
+    first(list.len() as u64, |i| {
+        let case = &list[i as usize];
+        reduced(side, &case.file) == case.answer
+    })
+}
+
+/// A tree with a damaged copy, and two Derived questions.
+fn held(
+    comparator: &mut Comparator,
+    random: &mut Random,
+    seed: u64,
+    i: u64,
+) -> Result<(), Difference> {
+    run::case(comparator, seed, i)?;
+    derived::any(comparator, random)?;
+    derived::refused(comparator, random)
+}
+
+/// The oracle's answers to the same trees, and to as many Derived questions.
+struct OracleSays {
+    trees: Trees,
+    reduced: Vec<Vec<u8>>,
+    derived: Vec<(Question, bool)>,
+}
+
+/// Scopes and ancestors.
+type Question = (Vec<u8>, Vec<u8>);
+
+impl OracleSays {
+    fn ask(path: &str, trees: Trees) -> io::Result<OracleSays> {
+        let mut oracle = Oracle::start(path)?;
+        let files: Vec<Vec<u8>> = (0..trees.count).map(|i| run::tree(trees.seed, i).0).collect();
+        let reduced = oracle.reduce(&files)?;
+        let mut random = Random::new(trees.seed);
+        let questions: Vec<_> = files.iter().map(|_| derived::question(&mut random)).collect();
+        let answers = oracle.derived(&questions)?;
+        oracle.stop()?;
+        Ok(OracleSays { trees, reduced, derived: questions.into_iter().zip(answers).collect() })
+    }
+
+    /// How many trees it takes until the side differs from the oracle.
+    fn search(&self, side: &dyn Side) -> Option<u64> {
+        first(self.trees.count, |i| {
+            let (file, _) = run::tree(self.trees.seed, i);
+            let ((scopes, ancestors), yes) = &self.derived[i as usize];
+            reduced(side, &file) == self.reduced[i as usize]
+                && (side.derived(scopes, ancestors) == Answer::Yes) == *yes
+        })
+    }
+}
+
+/// The side's answer to an accepted file; empty if it is removable.
+fn reduced(side: &dyn Side, file: &[u8]) -> Vec<u8> {
+    let mut out = vec![0; file::output_room(file)];
+    let reduction = side.reduce(file, &mut out);
+    out.truncate(reduction.length);
+    out
+}
