@@ -11,7 +11,7 @@ the crates. The program `edges` (crates/edges) reads the cases and must print th
                                refusal, or SETTINGS/RECORDS where the file is accepted
   edges.py names               a line for each case: what it is
   edges.py example NAME        the bytes of examples/NAME.uxt
-  edges.py examples-expected   the lines of examples/expected: a verdict on each file there
+  edges.py examples-expected   the lines of examples/expected: whether each file there is accepted
 
 Every answer comes from the reader below. Beside a case stands the answer worked out by hand, and
 the script stops where the two differ; only the cases of `changed_bytes` have none.
@@ -705,7 +705,7 @@ def example_files():
     return sorted((pathlib.Path(__file__).resolve().parent.parent / "examples").glob("*.uxt"))
 
 
-def verdict(data):
+def validation(data):
     read = answer(data, REDUCE)
     if isinstance(read, int):
         return f"refused {read}"
@@ -735,7 +735,7 @@ def main(words):
         out.write(EXAMPLES[words[1]])
     elif words == ["examples-expected"]:
         for path in example_files():
-            print(path.name, verdict(path.read_bytes()))
+            print(path.name, validation(path.read_bytes()))
     else:
         sys.exit(f"usage: edges.py cases | expected | names | example {'|'.join(EXAMPLES)} | examples-expected")
 
