@@ -1,1 +1,1 @@
-// What is reduced, what is an effect, and the theorem that only dead weight leaves: definitions and theorems, in specs/.
+// What is reduced, what is an effect, and the theorem that what goes has no effect: definitions and theorems, in specs/.

@@ -1,4 +1,4 @@
-/* Weighs the tree file of standard input: how many bytes, records and effects it has, and how many are left.
+/* Prints how many bytes, records and effects the tree file of standard input has, and how many are left.
  * Built by `./uxt lib`'s line; `./test` builds and runs it. */
 #include <stdio.h>
 

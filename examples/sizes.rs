@@ -1,4 +1,5 @@
-//! What weigh.c does, from Rust: weighs the tree file of standard input.
+//! What sizes.c does, from Rust: prints how many bytes, records and effects the tree file of standard input has, and how many
+//! are left.
 
 use std::io::{self, Read};
 
@@ -21,23 +22,23 @@ fn list_effects(src: &[u8], entries: &mut [u64]) -> Result<usize, u64> {
     if answer >> 32 == 0 { Ok(answer as usize) } else { Err(answer >> 32) }
 }
 
-fn weight(tree: &[u8]) -> Result<String, u64> {
+fn size(tree: &[u8]) -> Result<String, u64> {
     let records = u16::from_le_bytes([tree[6], tree[7]]);
     let effects = list_effects(tree, &mut vec![0; 2 * usize::from(records)])?;
     Ok(format!("{} bytes, {records} records, {effects} effects", tree.len()))
 }
 
-fn weigh(file: &[u8]) -> Result<String, u64> {
+fn sizes(file: &[u8]) -> Result<String, u64> {
     let mut left = vec![0; 63992]; // UXT_MOST_OUT
     let length = reduce(file, &mut left)?;
-    let after = if length == 0 { "removable".to_string() } else { weight(&left[..length])? };
-    Ok(format!("before: {}\nafter: {after}", weight(file)?))
+    let after = if length == 0 { "removable".to_string() } else { size(&left[..length])? };
+    Ok(format!("before: {}\nafter: {after}", size(file)?))
 }
 
 fn main() -> io::Result<()> {
     let mut file = Vec::new();
     io::stdin().take(32009).read_to_end(&mut file)?;
-    match weigh(&file) {
+    match sizes(&file) {
         Ok(text) => println!("{text}"),
         Err(number) => println!("refused {number}"),
     }
