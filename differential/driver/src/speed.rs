@@ -168,8 +168,8 @@ fn oracle_round(oracle: &mut Oracle, files: &[Vec<u8>], stages: &mut [Times]) ->
     Ok(())
 }
 
-/// The files of a group have so many records, or it is one file: few, so that what else the machine
-/// does falls into few of the times, and many enough that reading the clock does not count.
+/// The files of a group have so many records, or it is one file: few, so that an interruption falls
+/// into few of the times, and many enough that reading the clock does not count.
 const GROUP: usize = 2_000;
 
 fn group_size(files: &[Vec<u8>]) -> usize {
