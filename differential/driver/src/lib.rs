@@ -19,6 +19,7 @@ pub mod hostile;
 pub mod library;
 pub mod listings;
 pub mod oracle;
+pub mod process;
 pub mod programs;
 pub mod random;
 pub mod reduced;

@@ -8,7 +8,7 @@ use driver::hits::HITS;
 use driver::library::Library;
 use driver::listings;
 use driver::oracle::Oracle;
-use driver::programs;
+use driver::programs::{self, Programs};
 use driver::reduced;
 use driver::reductions;
 use driver::run;
@@ -19,6 +19,7 @@ use driver::under_damage;
 use std::io::{self, Read};
 use std::path::Path;
 use std::process::ExitCode;
+use std::time::Duration;
 use std::{env, fs};
 
 const HELP: &str = "\
@@ -33,8 +34,9 @@ driver listings                           the effects of the files on standard i
 driver reductions                         what is left of them, as the program reductions prints it
 driver reduced                            a line for each of the files on standard input: the
                                           port's number, length and hash of what Reduce writes
-driver programs FOLDER                    runs FOLDER/columns and FOLDER/reduce on each of them, and
-                                          compares what is printed with the port's answers
+driver programs [--limit SECONDS] FOLDER  runs FOLDER/columns and FOLDER/reduce on each of them, and
+                                          compares what is printed with the port's answers; a run
+                                          that takes longer than SECONDS, or 10, is ended
 driver damage [--files N] [--seed S]      damaged and random files through the library, between pages
                                           that it may not touch
 driver speed [--seed S] [--oracle PATH]   nanoseconds a record
@@ -49,6 +51,8 @@ struct Arguments {
     seed: u64,
     oracle: Option<String>,
     hits: bool,
+    /// Seconds that a run of a program may take.
+    limit: u64,
     /// Only a fault that the guards must find: `damage` starts itself so.
     fault: Option<usize>,
     file: Option<String>,
@@ -90,6 +94,7 @@ fn arguments(mut words: impl Iterator<Item = String>) -> Result<Arguments, Strin
         seed: 1,
         oracle: None,
         hits: false,
+        limit: 10,
         fault: None,
         file: None,
     };
@@ -102,6 +107,7 @@ fn arguments(mut words: impl Iterator<Item = String>) -> Result<Arguments, Strin
             "--seed" => arguments.seed = number(value()?)?,
             "--oracle" => arguments.oracle = Some(value()?),
             "--hits" => arguments.hits = true,
+            "--limit" => arguments.limit = number(value()?)?,
             "--fault" => arguments.fault = Some(number(value()?)? as usize),
             _ => arguments.file = Some(word),
         }
@@ -198,7 +204,8 @@ fn make_fixed_list(arguments: &Arguments) -> Result<String, String> {
 
 fn run_programs(arguments: &Arguments) -> Result<String, String> {
     let folder = arguments.file.as_ref().ok_or("which folder?")?;
-    programs::held(&Port, Path::new(folder), &input()?)
+    let limit = Duration::from_secs(arguments.limit);
+    programs::held(&Port, &Programs { folder: Path::new(folder), limit }, &input()?)
 }
 
 fn input() -> Result<Vec<u8>, String> {

@@ -1,21 +1,27 @@
 //! The programs `columns` and `reduce`, run on tree files and held to what the port answers.
 
-use std::io::{self, Write};
 use std::path::Path;
-use std::process::{Command, Output, Stdio};
+use std::time::Duration;
 
 use crate::compare::Difference;
 use crate::file;
 use crate::listings;
+use crate::process;
 use crate::reduced;
 use crate::side::Side;
 
 /// How much a program reads of its input: one byte more than the longest file that Reduce takes.
 const READ: usize = 32_009;
 
-/// Runs both programs of the folder on each file of the input, which stands behind its length in
-/// two bytes. Answers with how many files there were, and how many of each outcome.
-pub fn held(side: &dyn Side, folder: &Path, input: &[u8]) -> Result<String, Difference> {
+/// Where the programs are, and how long one run of one may take.
+pub struct Programs<'a> {
+    pub folder: &'a Path,
+    pub limit: Duration,
+}
+
+/// Runs both programs on each file of the input, which stands behind its length in two bytes.
+/// Answers with how many files there were, and how many of each outcome.
+pub fn held(side: &dyn Side, programs: &Programs, input: &[u8]) -> Result<String, Difference> {
     let files: Vec<&[u8]> = file::framed(input).collect();
     if files.is_empty() || files.iter().map(|file| 2 + file.len()).sum::<usize>() != input.len() {
         return Err("standard input is no list of files".to_string());
@@ -23,7 +29,7 @@ pub fn held(side: &dyn Side, folder: &Path, input: &[u8]) -> Result<String, Diff
     let mut tally = Tally::default();
     for (i, file) in files.iter().enumerate() {
         let answer = Answer::of(side, &file[..file.len().min(READ)]);
-        let alike = answer.is_printed(folder, file);
+        let alike = answer.is_printed(programs, file);
         alike.map_err(|what| {
             format!("file {} of {}, {} bytes: {what}", i + 1, files.len(), file.len())
         })?;
@@ -52,10 +58,10 @@ impl Answer {
     }
 
     /// Both programs, given the whole file, print this answer.
-    fn is_printed(&self, folder: &Path, file: &[u8]) -> Result<(), Difference> {
-        prints(&folder.join("columns"), file, self.columns.as_bytes(), b"")?;
+    fn is_printed(&self, programs: &Programs, file: &[u8]) -> Result<(), Difference> {
+        programs.print("columns", file, self.columns.as_bytes(), b"")?;
         let refusal = if self.number == 0 { String::new() } else { refused(self.number) };
-        prints(&folder.join("reduce"), file, &self.left, refusal.as_bytes())
+        programs.print("reduce", file, &self.left, refusal.as_bytes())
     }
 }
 
@@ -84,27 +90,18 @@ fn refused(number: u8) -> String {
     format!("refused {number}\n")
 }
 
-/// The program prints this on standard output and on standard error, and ends with status 0.
-fn prints(program: &Path, input: &[u8], out: &[u8], err: &[u8]) -> Result<(), Difference> {
-    let name = program.display();
-    let output = run(program, input).map_err(|error| format!("{name}: {error}"))?;
-    if !output.status.success() {
-        return Err(format!("{name}: {}", output.status));
-    }
-    same(&output.stdout, out).map_err(|what| format!("{name}, standard output: {what}"))?;
-    same(&output.stderr, err).map_err(|what| format!("{name}, standard error: {what}"))
-}
-
-fn run(program: &Path, input: &[u8]) -> io::Result<Output> {
-    let mut command = Command::new(program);
-    let pipes = command.stdin(Stdio::piped()).stdout(Stdio::piped()).stderr(Stdio::piped());
-    let mut child = pipes.spawn()?;
-    // The pipe is closed here: a program reads to the end of its input.
-    let written = child.stdin.take().expect("a pipe").write_all(input);
-    match written {
-        // Of a longer file a program may leave the end unread.
-        Err(error) if error.kind() != io::ErrorKind::BrokenPipe => Err(error),
-        _ => child.wait_with_output(),
+impl Programs<'_> {
+    /// The program prints this on standard output and on standard error, and ends with status 0.
+    fn print(&self, name: &str, input: &[u8], out: &[u8], err: &[u8]) -> Result<(), Difference> {
+        let program = self.folder.join(name);
+        let name = program.display();
+        let output = process::run(&program, input, self.limit);
+        let output = output.map_err(|error| format!("{name}: {error}"))?;
+        if !output.status.success() {
+            return Err(format!("{name}: {}", output.status));
+        }
+        same(&output.stdout, out).map_err(|what| format!("{name}, standard output: {what}"))?;
+        same(&output.stderr, err).map_err(|what| format!("{name}, standard error: {what}"))
     }
 }
 
