@@ -1,8 +1,9 @@
 //! Makes the wrong ports: for each file in `edits`, a copy of the port's source with that edit.
 //!
-//! An edit has a line `# why` that says what is wrong, a line `against: oracle` or `against: port`
-//! that says which of the two can show it, and groups of `file:`, `old:` and `new:`; `old` is part of
-//! one line and occurs once in the file.
+//! An edit has a line `# why` that says what is wrong, a line `against:` that names what must find
+//! it, and groups of `file:`, `old:` and `new:`; `old` is part of one line and occurs once in the
+//! file. The port must find each; the oracle those that answer an accepted tree or the Derived
+//! question wrongly; the fixed list, which has no such question, those of accepted trees.
 
 use std::path::{Path, PathBuf};
 use std::{env, fs};
@@ -13,16 +14,19 @@ fn main() {
     let (edits, port) = (root.join("edits"), root.join("../port/src"));
     println!("cargo:rerun-if-changed={}", edits.display());
     println!("cargo:rerun-if-changed={}", port.display());
-    let (mut modules, mut list) = (String::new(), String::new());
-    for path in sorted(&edits) {
+    let (mut modules, mut items) = (String::new(), String::new());
+    let paths = sorted(&edits);
+    assert!(!paths.is_empty(), "{} has no edits", edits.display());
+    for path in paths {
         let name = stem(&path);
         let edit = Edit::read(&path);
         edit.apply(&port, &out.join(&name));
         let lib = out.join(&name).join("lib.rs");
         modules += &format!("#[allow(warnings, clippy::all)]\n#[path = {lib:?}]\nmod {name};\n");
-        list += &format!("    wrong!({name}, {:?}, {}),\n", edit.why, edit.oracle);
+        let Edit { why, oracle, list, .. } = edit;
+        items += &format!("    wrong!({name}, {why:?}, {oracle}, {list}),\n");
     }
-    let all = format!("{modules}\npub fn all() -> Vec<Wrong> {{\n    vec![\n{list}    ]\n}}\n");
+    let all = format!("{modules}\npub fn all() -> Vec<Wrong> {{\n    vec![\n{items}    ]\n}}\n");
     fs::write(out.join("all.rs"), all).expect("written");
 }
 
@@ -40,19 +44,21 @@ fn stem(path: &Path) -> String {
 struct Edit {
     why: String,
     oracle: bool,
+    list: bool,
     /// File, old and new.
     changes: Vec<[String; 3]>,
 }
 
 impl Edit {
     fn read(path: &Path) -> Edit {
-        let mut edit = Edit { why: String::new(), oracle: false, changes: Vec::new() };
+        let (why, changes) = (String::new(), Vec::new());
+        let mut edit = Edit { why, oracle: false, list: false, changes };
         for line in fs::read_to_string(path).expect("a text").lines() {
             let (word, rest) = line.split_once(' ').unwrap_or((line, ""));
             let last = edit.changes.last_mut();
             match (word, last) {
                 ("#", _) => edit.why = rest.to_string(),
-                ("against:", _) => edit.oracle = rest == "oracle",
+                ("against:", _) => edit.against(rest),
                 ("file:", _) => edit.changes.push([rest.to_string(), String::new(), String::new()]),
                 ("old:", Some(change)) => change[1] = rest.to_string(),
                 ("new:", Some(change)) => change[2] = rest.to_string(),
@@ -60,6 +66,15 @@ impl Edit {
             }
         }
         edit
+    }
+
+    fn against(&mut self, names: &str) {
+        (self.oracle, self.list) = match names {
+            "port" => (false, false),
+            "port, oracle" => (true, false),
+            "port, oracle, list" => (true, true),
+            _ => panic!("{}: against {names}", self.why),
+        };
     }
 
     fn apply(&self, port: &Path, into: &Path) {

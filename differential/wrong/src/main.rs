@@ -4,7 +4,9 @@
 //! `wrong [--trees N] [--seed S] [--oracle PATH]` prints how many trees (each with a damaged copy
 //! and two Derived questions) it takes until the wrong port differs from the port; until a promise
 //! that holds of every answer is broken, with no other side at hand; where the oracle can see it,
-//! until it differs from the oracle; and how many cases of the fixed list it takes.
+//! until it differs from the oracle; and how many cases of the fixed list it takes. It fails if one
+//! is not found by all that its edit names, of which the oracle counts where it is given, or if the
+//! port itself is found.
 
 use driver::compare::{Comparator, Difference};
 use driver::fixed::Case;
@@ -13,6 +15,7 @@ use driver::random::Random;
 use driver::side::{Answer, Listing, Port, Reduction, Side};
 use driver::{derived, file, fixed, run};
 use port::Limits;
+use std::fmt::{self, Display, Formatter};
 use std::panic::{self, AssertUnwindSafe};
 use std::process::ExitCode;
 use std::{env, io};
@@ -22,10 +25,12 @@ pub struct Wrong {
     why: &'static str,
     /// Its answers to accepted trees or to the Derived question are wrong: the oracle can see it.
     oracle: bool,
+    /// The oracle's stored answers, the fixed list, are enough to see it.
+    list: bool,
 }
 
 macro_rules! wrong {
-    ($port:ident, $why:literal, $oracle:literal) => {{
+    ($port:ident, $why:literal, $oracle:literal, $list:literal) => {{
         struct This;
 
         impl Side for This {
@@ -62,7 +67,7 @@ macro_rules! wrong {
             }
         }
 
-        Wrong { side: &This, why: $why, oracle: $oracle }
+        Wrong { side: &This, why: $why, oracle: $oracle, list: $list }
     }};
 }
 
@@ -83,28 +88,72 @@ fn main() -> ExitCode {
         Trees { seed: number("--seed").unwrap_or(1), count: number("--trees").unwrap_or(20_000) };
     let oracle = value("--oracle").map(|path| OracleSays::ask(path, trees).expect("the oracle"));
     let list = fixed::decode(fixed::LIST).expect("the fixed list");
+    let against = Against { trees, oracle, list };
     // A panic of a wrong port is a finding, not an event.
     panic::set_hook(Box::new(|_| {}));
-    let all = all();
-    let mut found = 0;
     println!("{:>8} {:>8} {:>8} {:>8}", "port", "alone", "oracle", "list");
-    for wrong in &all {
-        let by_port = search(&[&Port, wrong.side], trees);
-        let alone = search(&[wrong.side], trees);
-        let by_oracle =
-            oracle.as_ref().filter(|_| wrong.oracle).map(|oracle| oracle.search(wrong.side));
-        found += usize::from(by_port.is_some() && by_oracle != Some(None));
-        let by_oracle = by_oracle.map_or("-".to_string(), shown);
-        let by_list = search_list(wrong.side, &list);
-        let (by_port, alone, by_list) = (shown(by_port), shown(alone), shown(by_list));
-        println!("{by_port:>8} {alone:>8} {by_oracle:>8} {by_list:>8}  {}", wrong.why);
+    let port_passes = against.passes_the_port();
+    let all = all();
+    let missed: Vec<&Wrong> = all.iter().filter(|wrong| !against.finds(wrong)).collect();
+    for wrong in &missed {
+        println!("not found: {}", wrong.why);
     }
-    println!("wrong ports: {found} of {} found", all.len());
-    if found == all.len() { ExitCode::SUCCESS } else { ExitCode::FAILURE }
+    println!("wrong ports: {} of {} found", all.len() - missed.len(), all.len());
+    if port_passes && missed.is_empty() { ExitCode::SUCCESS } else { ExitCode::FAILURE }
 }
 
-fn shown(trees: Option<u64>) -> String {
-    trees.map_or("none".to_string(), |trees| trees.to_string())
+/// What the wrong ports are held to, beside the port.
+struct Against {
+    trees: Trees,
+    oracle: Option<OracleSays>,
+    list: Vec<Case>,
+}
+
+/// How many trees or cases it takes to find a side, where it is found.
+struct Found {
+    by_port: Option<u64>,
+    alone: Option<u64>,
+    /// None: the oracle is not asked.
+    by_oracle: Option<Option<u64>>,
+    by_list: Option<u64>,
+}
+
+impl Against {
+    fn search(&self, side: &dyn Side, ask_oracle: bool) -> Found {
+        let oracle = self.oracle.as_ref().filter(|_| ask_oracle);
+        Found {
+            by_port: search(&[&Port, side], self.trees),
+            alone: search(&[side], self.trees),
+            by_oracle: oracle.map(|oracle| oracle.search(side)),
+            by_list: search_list(side, &self.list),
+        }
+    }
+
+    /// All that have to find it do.
+    fn finds(&self, wrong: &Wrong) -> bool {
+        let found = self.search(wrong.side, wrong.oracle);
+        println!("{found}  {}", wrong.why);
+        let Found { by_port, by_oracle, by_list, .. } = found;
+        by_port.is_some() && by_oracle != Some(None) && (by_list.is_some() || !wrong.list)
+    }
+
+    /// None finds the port itself: else what is found says nothing about an edit.
+    fn passes_the_port(&self) -> bool {
+        let found = self.search(&Port, true);
+        println!("{found}  the port itself, which must not be found");
+        let Found { by_port, alone, by_oracle, by_list } = found;
+        [by_port, alone, by_oracle.flatten(), by_list] == [None; 4]
+    }
+}
+
+impl Display for Found {
+    fn fmt(&self, f: &mut Formatter) -> fmt::Result {
+        let shown = |count: Option<u64>| count.map_or("none".to_string(), |n| n.to_string());
+        let Found { by_port, alone, by_oracle, by_list } = self;
+        let [by_port, alone, by_list] = [by_port, alone, by_list].map(|count| shown(*count));
+        let by_oracle = by_oracle.map_or("-".to_string(), shown);
+        write!(f, "{by_port:>8} {alone:>8} {by_oracle:>8} {by_list:>8}")
+    }
 }
 
 /// How many trees it takes until the last side is found wrong; a panic counts.
