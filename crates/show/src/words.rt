@@ -1,112 +1,106 @@
 // The words of a tree file that is accepted, so the last arm of a match by number stands for the one number that is left.
+use crate::buffer;
+use crate::buffer::Buffer;
 use fields::kind;
-use libc::STDOUT_FILENO;
-
-pub fn put(word: &[u8]) {
-    io::write_all(STDOUT_FILENO, word);
-}
-
-pub fn put_number(word: &[u8], number: u64) {
-    put(word);
-    io::print_decimal(STDOUT_FILENO, number);
-}
 
 // A word for one bit of a byte, where that is set.
-fn put_if(byte: usize, bit: usize, word: &[u8]) {
+fn put_if(byte: usize, bit: usize, word: &[u8], out: &mut Buffer, used: u16) -> u16 {
     if byte & bit != 0 {
-        put(word);
+        buffer::put(word, out, used)
+    } else {
+        used
     }
 }
 
 // The first line. No other version is accepted.
-pub fn put_header(settings: usize) {
-    put(b"uxt 1");
-    put_if(settings, 1, b" annotations");
-    put_if(settings, 2, b" tree-shake-only");
-    put_if(settings, 4, b" derived");
-    put(b"\n");
+pub fn put_header(settings: usize, out: &mut Buffer, mut used: u16) -> u16 {
+    used = buffer::put(b"uxt 1", out, used);
+    used = put_if(settings, 1, b" annotations", out, used);
+    used = put_if(settings, 2, b" tree-shake-only", out, used);
+    used = put_if(settings, 4, b" derived", out, used);
+    buffer::put(b"\n", out, used)
 }
 
-pub fn put_kind(kind: usize) {
+pub fn put_kind(kind: usize, out: &mut Buffer, used: u16) -> u16 {
     match kind {
-        kind::LITERAL => put(b"string"),
-        kind::IDENTIFIER => put(b"identifier"),
-        kind::FUNCTION => put(b"function"),
-        kind::ARROW => put(b"arrow"),
-        kind::OTHER_LEAF => put(b"other"),
-        kind::THIS => put(b"this"),
-        kind::ARRAY => put(b"array"),
-        kind::ELISION => put(b"elision"),
-        kind::SPREAD => put(b"spread"),
-        kind::OBJECT => put(b"object"),
-        kind::PROPERTY => put(b"property"),
-        kind::TEMPLATE => put(b"template"),
-        kind::SEQUENCE => put(b"sequence"),
-        kind::UNARY => put(b"unary"),
-        kind::BINARY => put(b"binary"),
-        kind::CALL => put(b"call"),
-        kind::NEW => put(b"new"),
-        kind::CLASS => put(b"class"),
-        _ => put(b"element"),
+        kind::LITERAL => buffer::put(b"string", out, used),
+        kind::IDENTIFIER => buffer::put(b"identifier", out, used),
+        kind::FUNCTION => buffer::put(b"function", out, used),
+        kind::ARROW => buffer::put(b"arrow", out, used),
+        kind::OTHER_LEAF => buffer::put(b"other", out, used),
+        kind::THIS => buffer::put(b"this", out, used),
+        kind::ARRAY => buffer::put(b"array", out, used),
+        kind::ELISION => buffer::put(b"elision", out, used),
+        kind::SPREAD => buffer::put(b"spread", out, used),
+        kind::OBJECT => buffer::put(b"object", out, used),
+        kind::PROPERTY => buffer::put(b"property", out, used),
+        kind::TEMPLATE => buffer::put(b"template", out, used),
+        kind::SEQUENCE => buffer::put(b"sequence", out, used),
+        kind::UNARY => buffer::put(b"unary", out, used),
+        kind::BINARY => buffer::put(b"binary", out, used),
+        kind::CALL => buffer::put(b"call", out, used),
+        kind::NEW => buffer::put(b"new", out, used),
+        kind::CLASS => buffer::put(b"class", out, used),
+        _ => buffer::put(b"element", out, used),
     }
 }
 
-pub fn put_sub(kind: usize, sub: usize) {
+pub fn put_sub(kind: usize, sub: usize, out: &mut Buffer, used: u16) -> u16 {
     match kind {
-        kind::PROPERTY => put_if(sub, 1, b" key"),
-        kind::UNARY => put_unary(sub),
-        kind::BINARY => put_binary(sub),
-        kind::CLASS => put_class(sub),
-        kind::ELEMENT => put_element(sub),
-        _ => {}
+        kind::PROPERTY => put_if(sub, 1, b" key", out, used),
+        kind::UNARY => put_unary(sub, out, used),
+        kind::BINARY => put_binary(sub, out, used),
+        kind::CLASS => put_class(sub, out, used),
+        kind::ELEMENT => put_element(sub, out, used),
+        _ => used,
     }
 }
 
-fn put_unary(sub: usize) {
+fn put_unary(sub: usize, out: &mut Buffer, used: u16) -> u16 {
     match sub {
-        1 => put(b" void"),
-        2 => put(b" not"),
-        3 => put(b" typeof"),
-        _ => put(b" other"),
+        1 => buffer::put(b" void", out, used),
+        2 => buffer::put(b" not", out, used),
+        3 => buffer::put(b" typeof", out, used),
+        _ => buffer::put(b" other", out, used),
     }
 }
 
-fn put_binary(sub: usize) {
+fn put_binary(sub: usize, out: &mut Buffer, used: u16) -> u16 {
     match sub {
-        1 => put(b" comparison"),
-        2 => put(b" addition"),
-        _ => put(b" other"),
+        1 => buffer::put(b" comparison", out, used),
+        2 => buffer::put(b" addition", out, used),
+        _ => buffer::put(b" other", out, used),
     }
 }
 
-fn put_class(sub: usize) {
-    put_if(sub, 1, b" decorated");
-    put_if(sub, 2, b" heritage");
+fn put_class(sub: usize, out: &mut Buffer, mut used: u16) -> u16 {
+    used = put_if(sub, 1, b" decorated", out, used);
+    put_if(sub, 2, b" heritage", out, used)
 }
 
-fn put_element(sub: usize) {
-    match sub % 8 {
-        1 => put(b" method"),
-        2 => put(b" property"),
-        3 => put(b" accessor"),
-        4 => put(b" block"),
-        _ => put(b" index-signature"),
-    }
-    put_if(sub, 8, b" static");
-    put_if(sub, 16, b" computed");
-    put_if(sub, 32, b" decorated");
-    put_if(sub, 64, b" value");
-    put_if(sub, 128, b" nonempty");
+fn put_element(sub: usize, out: &mut Buffer, mut used: u16) -> u16 {
+    used = match sub % 8 {
+        1 => buffer::put(b" method", out, used),
+        2 => buffer::put(b" property", out, used),
+        3 => buffer::put(b" accessor", out, used),
+        4 => buffer::put(b" block", out, used),
+        _ => buffer::put(b" index-signature", out, used),
+    };
+    used = put_if(sub, 8, b" static", out, used);
+    used = put_if(sub, 16, b" computed", out, used);
+    used = put_if(sub, 32, b" decorated", out, used);
+    used = put_if(sub, 64, b" value", out, used);
+    put_if(sub, 128, b" nonempty", out, used)
 }
 
 // A word for each bit, of the pairs too: no is the lower bit of a pair, yes the upper, and a file with both is refused.
-pub fn put_facts(facts: usize) {
-    put_if(facts, 1, b" effect");
-    put_if(facts, 2, b" symbol-no");
-    put_if(facts, 4, b" symbol-yes");
-    put_if(facts, 8, b" string-no");
-    put_if(facts, 16, b" string-yes");
-    put_if(facts, 32, b" annotated");
-    put_if(facts, 64, b" listed");
-    put_if(facts, 128, b" summary-free");
+pub fn put_facts(facts: usize, out: &mut Buffer, mut used: u16) -> u16 {
+    used = put_if(facts, 1, b" effect", out, used);
+    used = put_if(facts, 2, b" symbol-no", out, used);
+    used = put_if(facts, 4, b" symbol-yes", out, used);
+    used = put_if(facts, 8, b" string-no", out, used);
+    used = put_if(facts, 16, b" string-yes", out, used);
+    used = put_if(facts, 32, b" annotated", out, used);
+    used = put_if(facts, 64, b" listed", out, used);
+    put_if(facts, 128, b" summary-free", out, used)
 }

@@ -13,15 +13,15 @@ use Rattle.show.proofs.print_record.Reads as print-record-reads
 use Rattle.show.proofs.+print_trees.{statement}
 use Rattle.show.proofs.+print_trees.Tie.{close}
 
-abbrev μ-print-trees : Measures 1 print-trees-kinds.ps ℕ
+abbrev μ-print-trees : Measures 2 print-trees-kinds.ps ℕ
 μ-print-trees κs a = a .1 .1 .0
 
-abbrev print-trees-at : ℕ → In 1 print-trees-kinds.ps
-print-trees-at t = and 1 print-trees-kinds.ps (is 1 print-trees-kinds.ps μ-print-trees t) print-trees.Pre
+abbrev print-trees-at : ℕ → In 2 print-trees-kinds.ps
+print-trees-at t = and 2 print-trees-kinds.ps (is 2 print-trees-kinds.ps μ-print-trees t) print-trees.Pre
 
-abbrev print-trees-below : ℕ → In 1 print-trees-kinds.ps
+abbrev print-trees-below : ℕ → In 2 print-trees-kinds.ps
 print-trees-below t =
-    and 1 print-trees-kinds.ps (falls 1 print-trees-kinds.ps _<_ μ-print-trees t) print-trees.Pre
+    and 2 print-trees-kinds.ps (falls 2 print-trees-kinds.ps _<_ μ-print-trees t) print-trees.Pre
 
 abbrev print-trees-calls : ℕ → print-trees-lts.Claims
 print-trees-calls t = (
@@ -34,10 +34,10 @@ print-trees-calls t = (
 )
 
 abbrev print-trees-Inv-loop : print-trees-lts.InvT-loop
-print-trees-Inv-loop src at size level end p₀ p = Left src size p end
+print-trees-Inv-loop src at size level out₀ used₀ end p₀ out used p = Left src size p end
 
 abbrev print-trees-μ-loop : print-trees-lts.MeasureT-loop
-print-trees-μ-loop src at size level end p₀ p = end - p
+print-trees-μ-loop src at size level out₀ used₀ end p₀ out used p = end - p
 
 print-trees-add-end : (t : ℕ) → print-trees-lts.Need-add-end (print-trees-calls t) (print-trees-at t) print-trees.Post print-trees-Inv-loop print-trees-μ-loop
 print-trees-add-end t c = omega (arith, c .before .pre .1 .0 .inside)
@@ -46,37 +46,37 @@ print-trees-loop-holds : (t : ℕ) → print-trees-lts.Need-loop-holds (print-tr
 print-trees-loop-holds t c = left-all (c .before .pre .1 .0)
 
 print-trees-print-record-requires : (t : ℕ) → print-trees-lts.Need-print-record-requires (print-trees-calls t) (print-trees-at t) print-trees.Post print-trees-Inv-loop print-trees-μ-loop
-print-trees-print-record-requires t c κs = omega (arith, c .before .loop .inv .held .inside, c .before .loop .inv .inside)
+print-trees-print-record-requires t c κs = omega (arith, c .before .before .loop .inv .held .inside, c .before .before .loop .inv .inside)
 
 print-trees-subtree-at-requires : (t : ℕ) → print-trees-lts.Need-subtree-at-requires (print-trees-calls t) (print-trees-at t) print-trees.Post print-trees-Inv-loop print-trees-μ-loop
-print-trees-subtree-at-requires t c κs = omega (arith, c .before .before .loop .inv .held .inside, c .before .before .loop .inv .inside)
+print-trees-subtree-at-requires t c κs = omega (arith, c .before .before .before .loop .inv .held .inside, c .before .before .before .loop .inv .inside)
 
 print-trees-add-print-trees : (t : ℕ) → print-trees-lts.Need-add-print-trees (print-trees-calls t) (print-trees-at t) print-trees.Post print-trees-Inv-loop print-trees-μ-loop
 print-trees-add-print-trees t c = omega arith
 
 print-trees-sub-print-trees : (t : ℕ) → print-trees-lts.Need-sub-print-trees (print-trees-calls t) (print-trees-at t) print-trees.Post print-trees-Inv-loop print-trees-μ-loop
-print-trees-sub-print-trees t c = omega (arith, c .subtree-at .ensures .0, held-some (c .before .before .before .loop .inv .held) (omega arith))
+print-trees-sub-print-trees t c = omega (arith, c .subtree-at .ensures .0, held-some (c .before .before .before .before .loop .inv .held) (omega arith))
 
 print-trees-add-print-trees-2 : (t : ℕ) → print-trees-lts.Need-add-print-trees-2 (print-trees-calls t) (print-trees-at t) print-trees.Post print-trees-Inv-loop print-trees-μ-loop
 print-trees-add-print-trees-2 t c = omega arith
 
 print-trees-print-trees-requires : (t : ℕ) → print-trees-lts.Need-print-trees-requires (print-trees-calls t) (print-trees-at t) print-trees.Post print-trees-Inv-loop print-trees-μ-loop
 print-trees-print-trees-requires t c κs =
-    let l = c .before .before .before .loop .inv in
-    let z = c .subtree-at .ensures .0 in
+    let l = c .before .before .before .before .before .loop .inv in
+    let z = c .before .subtree-at .ensures .0 in
     let some = held-some (l .held) (omega arith) in
     let within = held-within (l .held) (omega arith) in
-    let pre = c .before .before .before .before .before .pre in
+    let pre = c .before .before .before .before .before .before .before .pre in
     (omega (arith, pre .0, z, some, within, l .few), (rw z (held-children (l .held) (omega arith)), omega (arith, pre .1 .1, z, some, within, l .few)))
 
 print-trees-add-p : (t : ℕ) → print-trees-lts.Need-add-p (print-trees-calls t) (print-trees-at t) print-trees.Post print-trees-Inv-loop print-trees-μ-loop
-print-trees-add-p t c = omega (arith, c .before .subtree-at .ensures .0, held-within (c .before .before .before .before .loop .inv .held) (omega arith))
+print-trees-add-p t c = omega (arith, c .before .before .subtree-at .ensures .0, held-within (c .before .before .before .before .before .before .loop .inv .held) (omega arith))
 
 print-trees-loop-less : (t : ℕ) → print-trees-lts.Need-loop-less (print-trees-calls t) (print-trees-at t) print-trees.Post print-trees-Inv-loop print-trees-μ-loop
-print-trees-loop-less t c = omega (arith, c .before .subtree-at .ensures .0, held-some (c .before .before .before .before .loop .inv .held) (omega arith))
+print-trees-loop-less t c = omega (arith, c .before .before .subtree-at .ensures .0, held-some (c .before .before .before .before .before .before .loop .inv .held) (omega arith))
 
 print-trees-loop-again : (t : ℕ) → print-trees-lts.Need-loop-again (print-trees-calls t) (print-trees-at t) print-trees.Post print-trees-Inv-loop print-trees-μ-loop
-print-trees-loop-again t c = left-after (c .before .before .before .before .loop .inv) (c .before .before .before .loop-test .taken) _ (c .before .subtree-at .ensures .0)
+print-trees-loop-again t c = left-after (c .before .before .before .before .before .before .loop .inv) (c .before .before .before .before .before .loop-test .taken) _ (c .before .before .subtree-at .ensures .0)
 
 print-trees-returns : (t : ℕ) → print-trees-lts.Need-returns (print-trees-calls t) (print-trees-at t) print-trees.Post print-trees-Inv-loop print-trees-μ-loop
 print-trees-returns t c = tt

@@ -39,8 +39,8 @@ put-header-requires c κs = search needs
 print-trees-requires : tie.Need-print-trees-requires
 print-trees-requires c κs =
     let held =
-    file-held _ _ _ (ap stated (sym (c .before .before .checked2 .given .1)) ∙ c .before .before .before .before .check .ensures)
-    (record { small = λ i. omega (arith, c .before .before .before .before .before .shared-slice-known .given i) }) in
+    file-held _ _ _ (ap stated (sym (c .before .before .before .before .checked2 .given .1)) ∙ c .before .before .before .before .before .before .check .ensures)
+    (record { small = λ i. omega (arith, c .before .before .before .before .before .before .before .shared-slice-known .given i) }) in
     (held .0, omega (arith, held .1))
 
 returns : tie.Need-returns

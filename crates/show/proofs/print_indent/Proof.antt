@@ -4,10 +4,10 @@ use Rattle.show.proofs.print_indent.Statement.{statement}
 use Rattle.show.proofs.print_indent.Tie as tie
 
 abbrev Inv-loop : tie.InvT-loop
-Inv-loop level i₀ t3 i = i ≤ level
+Inv-loop level out₀ used₀ i₀ t5 out used i = i ≤ level
 
 abbrev μ-loop : tie.MeasureT-loop
-μ-loop level i₀ t3 i = level - i
+μ-loop level out₀ used₀ i₀ t5 out used i = level - i
 
 loop-holds : tie.Need-loop-holds Inv-loop μ-loop
 loop-holds c = search needs
