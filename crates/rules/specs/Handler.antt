@@ -1,4 +1,4 @@
--- Which rule takes a node. Kinds, and the subs of unary and binary, are told apart by their numbers here and nowhere else.
+-- Which rule takes a node: by its kind and, of a unary or a binary, its sub.
 use mathlib.Core.Bool.{Bool, cond, _&&_, _||_}
 use Prim.Native.Nat.{ℕ}
 use lib.Dec.{eqb}

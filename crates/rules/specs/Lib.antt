@@ -9,6 +9,7 @@ pub mod Class
 pub mod Reduce
 pub mod Effects
 pub mod Reads
+pub mod ReadsBy
 pub mod Rows
 pub mod Theorems
 pub mod Proofs

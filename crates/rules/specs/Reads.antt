@@ -2,7 +2,7 @@
 -- node is removable, a spread goes (alone or with its object), or a side of an addition is dropped or becomes the empty literal, a
 -- folded left being taken as it then stands; also at heritage, computed keys and static values of an extracted class. Setting a
 -- made node's flag reads none."
-use mathlib.Core.Bool.{Bool, cond, not, _&&_}
+use mathlib.Core.Bool.{cond, not, _&&_}
 use mathlib.Core.List.{List, [], _∷_, _++_}
 use mathlib.Core.Path.{_≡_}
 use lib.ListN.{drop}
@@ -21,10 +21,6 @@ ReadIn = Paired (List Tree)
 
 abbrev pub readInAll : List ReadIn → List Tree
 readInAll cs = concatMap (λ c. c .result) cs
-
--- A child that waits is not reduced.
-abbrev pub readInAllBut : (Tree → Bool) → List ReadIn → List Tree
-readInAllBut waits cs = concatMap (λ c. cond (waits (c .tree)) [] (c .result)) cs
 
 -- Of an addition of a left side l, "a folded left being taken as it then stands", and a right side r.
 unfoldable pub sideReads : Tree → Tree → List Tree
@@ -45,31 +41,62 @@ elementReads e = filter clear (computedKey e) ++ filter clear (staticValue e)
 unfoldable pub classReads : Tree → List Tree
 classReads t = filter clear (heritage t) ++ concatMap elementReads (elements t)
 
-abbrev pub readsBy : Handler → Settings → Tree → List ReadIn → List Tree
-readsBy Handler.leaf s t cs = keepIf (clear t) t
-readsBy Handler.this s t cs = []
-readsBy Handler.voidOrNot s t cs = readInAll cs
-readsBy Handler.typeof s t cs = cond (ofIdentifier t) [] (readInAll cs)
-readsBy Handler.otherUnary s t cs = keepIf (clear t) t
-readsBy Handler.sequence s t cs = readInAll cs
-readsBy Handler.array s t cs = readInAll cs
-readsBy Handler.template s t cs = cond (unchangedTemplate t) [] (readInAllBut possibleSymbol cs)
+-- What is read at a node itself, case by case of 01's sentence.
+abbrev pub readAt : Handler → Settings → Tree → List Tree
+-- "a node is removable": each of these is, if its flag is clear; a call only where it is impure and nothing else keeps it
+readAt Handler.leaf s t = keepIf (clear t) t
+readAt Handler.otherUnary s t = keepIf (clear t) t
+readAt Handler.otherBinary s t = keepIf (clear t) t
+readAt Handler.call s t = keepIf (not (pureCall s t) && not (hasSideEffectsOrPreservedIife s t)) t
+-- and so is an addition; "or a side of an addition is dropped or becomes the empty literal", where it is flagged
+readAt Handler.addition s t = cond (flagged t) (foldReads t) (t ∷ [])
 -- "a spread goes (alone or with its object)"
-readsBy Handler.object s t cs = cond (onlySpreads t) (cond (flaggedChild t) [] (trees (t .kids))) (readInAllBut isSpread cs)
-readsBy Handler.comparison s t cs = readInAll cs
-readsBy Handler.addition s t cs = cond (flagged t) (foldReads t) (t ∷ [])
-readsBy Handler.otherBinary s t cs = keepIf (clear t) t
-readsBy Handler.call s t cs = cond (pureCall s t) (readInAll (drop 1 cs)) (keepIf (not (hasSideEffectsOrPreservedIife s t)) t)
-readsBy Handler.new s t cs = cond (pureNew s t) (readInAll (drop 1 cs)) []
-readsBy Handler.class s t cs = cond (keptClass t) [] (classReads t)
-readsBy Handler.elision s t cs = []
-readsBy Handler.spread s t cs = keepIf (clear t) t
-readsBy Handler.property s t cs = readInAll cs
-readsBy Handler.element s t cs = []
-readsBy Handler.leftOut s t cs = []
+readAt Handler.spread s t = keepIf (clear t) t
+readAt Handler.object s t = cond (onlySpreads t && not (flaggedChild t)) (trees (t .kids)) []
+-- "also at heritage, computed keys and static values of an extracted class"
+readAt Handler.class s t = cond (keptClass t) [] (classReads t)
+-- and no other.
+readAt Handler.this s t = []
+readAt Handler.voidOrNot s t = []
+readAt Handler.typeof s t = []
+readAt Handler.sequence s t = []
+readAt Handler.array s t = []
+readAt Handler.template s t = []
+readAt Handler.comparison s t = []
+readAt Handler.new s t = []
+readAt Handler.elision s t = []
+readAt Handler.property s t = []
+readAt Handler.element s t = []
+readAt Handler.leftOut s t = []
+
+-- The children that are reduced: in these more is read. "'Reduced' means this same rule applied to a child."
+abbrev pub reducedChildren : Handler → Settings → Tree → List ReadIn → List ReadIn
+reducedChildren Handler.voidOrNot s t cs = cs
+reducedChildren Handler.typeof s t cs = cond (ofIdentifier t) [] cs
+reducedChildren Handler.sequence s t cs = cs
+reducedChildren Handler.array s t cs = cs
+reducedChildren Handler.comparison s t cs = cs
+reducedChildren Handler.property s t cs = cs
+-- "a possible symbol waits unreduced", "adjacent spreads, flagged or not, wait"
+reducedChildren Handler.template s t cs = cond (unchangedTemplate t) [] (filter (λ c. not (possibleSymbol (c .tree))) cs)
+reducedChildren Handler.object s t cs = cond (onlySpreads t) [] (filter (λ c. not (isSpread (c .tree))) cs)
+-- "A pure one loses its callee; its arguments are reduced"
+reducedChildren Handler.call s t cs = cond (pureCall s t) (drop 1 cs) []
+reducedChildren Handler.new s t cs = cond (pureNew s t) (drop 1 cs) []
+-- and of no other.
+reducedChildren Handler.leaf s t cs = []
+reducedChildren Handler.this s t cs = []
+reducedChildren Handler.otherUnary s t cs = []
+reducedChildren Handler.addition s t cs = []
+reducedChildren Handler.otherBinary s t cs = []
+reducedChildren Handler.class s t cs = []
+reducedChildren Handler.elision s t cs = []
+reducedChildren Handler.spread s t cs = []
+reducedChildren Handler.element s t cs = []
+reducedChildren Handler.leftOut s t cs = []
 
 unfoldable pub readsRule : Settings → Tree → List ReadIn → List Tree
-readsRule s t cs = readsBy (handler (t .head)) s t cs
+readsRule s t cs = readAt (handler (t .head)) s t ++ readInAll (reducedChildren (handler (t .head)) s t cs)
 
 unfoldable pub reads : Settings → Tree → List Tree
 reads s t = recur (readsRule s) t

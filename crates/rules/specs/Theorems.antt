@@ -1,6 +1,6 @@
 -- What is shown of reducing and listing, over all trees, facts and settings. A theorem assumes what it names, and no more.
 use mathlib.Core.Bool.{Bool, true, false, cond}
-use mathlib.Core.List.{List, [], _∷_, _++_}
+use mathlib.Core.List.{List, [], _∷_, _++_, map}
 use mathlib.Core.Path.{_≡_, sym, _∙_, ap}
 use Prim.Native.Nat.{ℕ, suc, _*_, _-_, _≤_, _<_}
 use native.Mathlib.Nat.{le-trans}
@@ -11,16 +11,13 @@ use Rattle.tree.specs.Children.{wellFormed}
 use Rattle.tree.specs.File.{allEncodable}
 use Rattle.tree.specs.Refusal.{Limits, reduceLimits, listEffectsLimits}
 use Rattle.tree.specs.Accepted.{Permitted}
-use Rattle.rules.specs.Lists.{concatMap}
-use Rattle.rules.specs.Settings.{Settings, treeShakeOnly}
-use Rattle.rules.specs.Handler.{Handler, handler, isSpread, isFunction, firstIs}
-use Rattle.rules.specs.Facts.{flagged, possibleSymbol, ofIdentifier, pureNew, pureCall, hasSideEffectsOrPreservedIife, unchangedTemplate, onlySpreads, flaggedChild}
-use Rattle.rules.specs.Class.{keptClass}
+use Rattle.rules.specs.Settings.{Settings}
+use Rattle.rules.specs.Handler.{handler}
+use Rattle.rules.specs.Facts.{flagged}
 use Rattle.rules.specs.Reduce.{reduce}
 use Rattle.rules.specs.Effects.{effects, effectsOf}
 use Rattle.rules.specs.Reads.{reads, Premise}
-use Rattle.rules.specs.Proofs.Lists.{concatMap-map}
-use Rattle.rules.specs.Proofs.Facts.{preserved-iife}
+use Rattle.rules.specs.ReadsBy.{readsBy}
 use Rattle.rules.specs.Proofs.Demand.{demand-3}
 use Rattle.rules.specs.Proofs.Accepted.{accepted, literals-clear}
 use Rattle.rules.specs.Proofs.Effects.{whole}
@@ -29,7 +26,7 @@ use Rattle.rules.specs.Proofs.Bounds.{bounded}
 use Rattle.rules.specs.Proofs.Counts as counts
 use Rattle.rules.specs.Proofs.Kept as kept
 use Rattle.rules.specs.Proofs.Single as single
-use Rattle.rules.specs.Proofs.Unfold.{readIn}
+use Rattle.rules.specs.Proofs.Unfold.{readIn, reads-is}
 use Rattle.rules.specs.Proofs.Reads as proved
 
 -- What happens of a list of effects where `throws past e` says whether e throws after `past`: each effect up to the first that
@@ -99,45 +96,10 @@ module _ (s : Settings) (t : Tree) where
   pub few-effects : length (effects s t) < 2 * size t
   few-effects = counts.few s t
 
-  -- The premise is no wider than 01's: each node that counts as read is clear.
+  -- The premise is no wider than 01's: at each handler exactly these flags are read,
+  pub reads-exactly : reads s t ≡ readsBy (handler (t .head)) s t (map (readIn s) (trees (t .kids)))
+  reads-exactly = reads-is s t
+
+  -- and each that is read is clear.
   pub reads-clear : All (λ n. flagged n ≡ false) (reads s t)
   reads-clear = proved.reads-clear s t
-
-  -- And none is read at `this`, a typeof identifier, an impure new, an impure call that is kept (as tree-shake-only keeps one), a kept class, a
-  -- template that stays, an object of spreads that stays;
-  pub none-at-this : handler (t .head) ≡ Handler.this → reads s t ≡ []
-  none-at-this e = proved.reads-by s t Handler.this e
-
-  pub none-at-typeof-identifier : handler (t .head) ≡ Handler.typeof → ofIdentifier t ≡ true → reads s t ≡ []
-  none-at-typeof-identifier e h = proved.reads-by s t Handler.typeof e ∙ rw h
-
-  pub none-at-impure-new : handler (t .head) ≡ Handler.new → pureNew s t ≡ false → reads s t ≡ []
-  none-at-impure-new e h = proved.reads-by s t Handler.new e ∙ rw h
-
-  pub none-at-kept-call : handler (t .head) ≡ Handler.call → pureCall s t ≡ false → hasSideEffectsOrPreservedIife s t ≡ true → reads s t ≡ []
-  none-at-kept-call e h k = proved.reads-by s t Handler.call e ∙ rw (h, k)
-
-  pub none-at-tree-shake-only : handler (t .head) ≡ Handler.call → pureCall s t ≡ false → treeShakeOnly s ≡ true → firstIs isFunction t ≡ true → reads s t ≡ []
-  none-at-tree-shake-only e h o f = none-at-kept-call e h (preserved-iife s t o f)
-
-  pub none-at-kept-class : handler (t .head) ≡ Handler.class → keptClass t ≡ true → reads s t ≡ []
-  none-at-kept-class e h = proved.reads-by s t Handler.class e ∙ rw h
-
-  pub none-at-unchanged-template : handler (t .head) ≡ Handler.template → unchangedTemplate t ≡ true → reads s t ≡ []
-  none-at-unchanged-template e h = proved.reads-by s t Handler.template e ∙ rw h
-
-  pub none-at-kept-spreads : handler (t .head) ≡ Handler.object → onlySpreads t ≡ true → flaggedChild t ≡ true → reads s t ≡ []
-  none-at-kept-spreads e h k = proved.reads-by s t Handler.object e ∙ rw (h, k)
-
-  -- nor at what waits: of a template or an object that is taken apart, only what is read in its other children.
-  pub none-at-waiting-symbol : handler (t .head) ≡ Handler.template → unchangedTemplate t ≡ false
-      → reads s t ≡ concatMap (λ c. cond (possibleSymbol c) [] (reads s c)) (trees (t .kids))
-  none-at-waiting-symbol e h =
-      proved.reads-by s t Handler.template e
-      ∙ rw h (concatMap-map (λ c. cond (possibleSymbol (c .tree)) [] (c .result)) (readIn s) (trees (t .kids)))
-
-  pub none-at-waiting-spread : handler (t .head) ≡ Handler.object → onlySpreads t ≡ false
-      → reads s t ≡ concatMap (λ c. cond (isSpread c) [] (reads s c)) (trees (t .kids))
-  none-at-waiting-spread e h =
-      proved.reads-by s t Handler.object e
-      ∙ rw h (concatMap-map (λ c. cond (isSpread (c .tree)) [] (c .result)) (readIn s) (trees (t .kids)))

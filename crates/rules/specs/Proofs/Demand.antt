@@ -15,7 +15,8 @@ use Rattle.rules.specs.Addition.{foldStringAdditionChain}
 use Rattle.rules.specs.Class as class
 use Rattle.rules.specs.Reduce.{Reduced, kept, noneOneSeveral, staysWith, flush, flushTemplateBefore, transformTemplate, transformObject, joinKept, sequenceIfAny, foldArgument, foldArgumentsIntoNeededExpressions, withoutCallee, removeUnusedArrayExpr, removeUnusedExpression, reduce}
 use Rattle.rules.specs.Effects.{Evaluated, effects, effectsOf, effectsBy, childrenInOrder, coercion, classEffects, callEffects}
-use Rattle.rules.specs.Reads.{ReadIn, readInAll, readInAllBut, sideReads, foldReads, elementReads, classReads, readsBy, reads, NoEffects, Premise}
+use Rattle.rules.specs.Reads.{ReadIn, readInAll, sideReads, foldReads, elementReads, classReads, reads, NoEffects, Premise}
+use Rattle.rules.specs.ReadsBy.{readInAllBut, readsBy}
 use Rattle.rules.specs.Proofs.Lists.{by-cond, all-append, all-drop, kept-all, all-concatMap, all-map, all-zip, none-all, drop-map, concatMap-same, concatMap-none, concatMap-concatMap}
 use Rattle.rules.specs.Proofs.Unfold.{reduced, evaluated, readIn, reduce-is, reads-is, effects-is, inOrder-is}
 use Rattle.rules.specs.Proofs.Everywhere.{Everywhere, kids-everywhere}

@@ -6,7 +6,7 @@ use mathlib.Core.Path.{_≡_, refl, ap₂}
 use Prim.Native.Nat.{ℕ}
 use lib.Dec.{eqb}
 use borrow.Author.Tests.{eqb-true, not-true}
-use Rattle.tree.specs.Below.{and-both, and-left, and-right}
+use Rattle.tree.specs.Below.{and-left, and-right}
 use Rattle.tree.specs.Tree.{Place, Head, Tree, trees, trees-forest, recur, each, All}
 use Rattle.tree.specs.Heads.{asKind}
 use Rattle.tree.specs.Kind as kind
@@ -18,7 +18,7 @@ use Rattle.rules.specs.Made.{makeArray, makeObject, makeTemplate, emptyL
 use Rattle.rules.specs.Addition.{isDroppedRight}
 use Rattle.rules.specs.Class.{elements, staticValue, decoratedClass, decoratedElement, indexSignature, nonemptyStaticBlock, flaggedStaticValue, arrowHeritage, keptClass}
 use Rattle.rules.specs.Effects.{classIsEffect}
-use Rattle.rules.specs.Proofs.Lists.{or-false-l, or-true-r, none-all}
+use Rattle.rules.specs.Proofs.Lists.{or-false-l, none-all}
 
 -- A node of a kind is taken by that kind's handler.
 handled-at : (h : Head) (k u : ℕ) → h .kind ≡ k → h .sub ≡ u → handler h ≡ handler (asKind h k u)
@@ -103,11 +103,6 @@ dropped-clear r e = not-true (flagged r) (and-right (not (possibleSymbol r)) (cl
 pub gone-call-clear : (s : Settings) (t : Tree) → hasSideEffectsOrPreservedIife s t ≡ false → flagged t ≡ false
 unfolding hasSideEffectsOrPreservedIife
 gone-call-clear s t e = or-false-l (flagged t) (treeShakeOnly s && firstIs isFunction t) e
-
--- "and not if tree-shake-only is on and the callee is a function or arrow"
-pub preserved-iife : (s : Settings) (t : Tree) → treeShakeOnly s ≡ true → firstIs isFunction t ≡ true → hasSideEffectsOrPreservedIife s t ≡ true
-unfolding hasSideEffectsOrPreservedIife
-preserved-iife s t o f = or-true-r (flagged t) (treeShakeOnly s && firstIs isFunction t) (and-both o f)
 
 -- An object of spreads alone that goes has no flagged one.
 pub flagged-child : (t : Tree) → flaggedChild t ≡ false → All (λ c. flagged c ≡ false) (trees (t .kids))

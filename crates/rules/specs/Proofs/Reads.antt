@@ -1,7 +1,7 @@
 -- The premise is no wider than 01's: each flag that is read is clear, and where 01 says that none is read, none is.
 use mathlib.Core.Bool.{Bool, true, false, cond, not, _&&_}
 use mathlib.Core.List.{List, [], _∷_, _++_, map}
-use mathlib.Core.Path.{_≡_, _∙_, ap}
+use mathlib.Core.Path.{_≡_}
 use lib.ListN.{drop}
 use borrow.Author.Tests.{not-true}
 use Rattle.tree.specs.Below.{and-right}
@@ -12,7 +12,8 @@ use Rattle.rules.specs.Handler.{Handler, handler, isSpread}
 use Rattle.rules.specs.Facts.{flagged, clear, possibleSymbol, stringFact, isString, ofIdentifier, pureNew, pureCall, hasSideEffectsOrPreservedIife, unchangedTemplate, onlySpreads, flaggedChild}
 use Rattle.rules.specs.Addition.{isDroppedRight, foldStringAdditionChain}
 use Rattle.rules.specs.Class.{heritage, elements, computedKey, staticValue, keptClass}
-use Rattle.rules.specs.Reads.{readInAll, readInAllBut, sideReads, foldReads, elementReads, classReads, readsBy, reads}
+use Rattle.rules.specs.Reads.{readInAll, sideReads, foldReads, elementReads, classReads, reads}
+use Rattle.rules.specs.ReadsBy.{readInAllBut, readsBy}
 use Rattle.rules.specs.Proofs.Lists.{by-cond, all-join, all-drop, all-keep, concatMap-all, always, drop-map}
 use Rattle.rules.specs.Proofs.Unfold.{readIn, reads-is, readInAll-is}
 use Rattle.rules.specs.Proofs.Facts.{dropped-clear, gone-call-clear, flagged-child}
@@ -107,7 +108,3 @@ module _ (s : Settings) where
 
   pub reads-clear : (t : Tree) → All (λ n. flagged n ≡ false) (reads s t)
   reads-clear = ind ReadsClear step
-
-  -- What is read at a node of a handler.
-  pub reads-by : (t : Tree) (k : Handler) → handler (t .head) ≡ k → reads s t ≡ readsBy k s t (map (readIn s) (trees (t .kids)))
-  reads-by t k e = reads-is s t ∙ ap (λ k. readsBy k s t (map (readIn s) (trees (t .kids)))) e
