@@ -1,26 +1,25 @@
 -- An extracted class: its flagged heritage, then what its elements give, made a sequence if there is any.
-use mathlib.Core.Path.{_≡_, ap, _∙_}
-use mathlib.Core.List.{List, [], _∷_}
+use mathlib.Core.Path.{_≡_, ap}
+use mathlib.Core.List.{List}
 use Prim.Native.Nat.{ℕ, _+_, _-_, _/_, _%_, _<_, _≤_}
 use native.Mathlib.Omega.{arith}
-use Rattle.tree.specs.Tree.{Place, Head, Tree, trees, forest, one, records, forest-trees}
+use Rattle.tree.specs.Tree.{Tree, trees, forest, one, records, forest-trees}
 use Rattle.tree.specs.Room.{recordsIn}
 use Rattle.tree.specs.Fields.{headAt}
 use Rattle.tree.specs.Children as children
 use Rattle.tree.specs.Kind as kind
 use Rattle.rules.specs.Lists.{filter, concatMap}
 use Rattle.rules.specs.Facts.{flagged}
-use Rattle.rules.specs.Made.{placeOf, makeSequence}
+use Rattle.rules.specs.Made.{placeOf}
 use Rattle.rules.specs.Class.{heritage, elements, extractedOfElement, extracted}
 use Rattle.rules.specs.Reduce.{sequenceIfAny}
 use Rattle.readings.specs.Input.{Input}
 use Rattle.readings.specs.First.{firstSize, GivenFirst}
 use Rattle.readings.specs.Split.{Split, some-size}
 use Rattle.readings.specs.Heritage.{heritage-split, heritage-first}
-use Rattle.output.specs.Records.{before-less}
-use Rattle.output.specs.Trees.{Wrote, wrote-none, wrote-both, wrote-over, wrote-as}
+use Rattle.output.specs.Trees.{Wrote, wrote-both, wrote-over, wrote-as}
 use Rattle.output.specs.Given.{GivenList, GivenTree}
-use Rattle.rewrite.specs.Made.{GivenMade, Makes}
+use Rattle.rewrite.specs.Becomes as rewrite
 use Rattle.classes.specs.Extract.{GivenAtMostOne, CopiesFlagged, ExtractsElements, elements-size, first-given, first-wrote, first-room, first-ends}
 
 pub record GivenClass (s : List ℕ) (at size pos room : ℕ) : Type 0 where
@@ -83,30 +82,21 @@ module _ {s : List ℕ} {at size : ℕ} (ek : headAt s at .kind ≡ kind.class) 
           wrote-both (filter flagged (heritage t)) (concatMap extractedOfElement (elements t)) (first-wrote d (omega arith) c)
           (wrote-as (x .by (d .rest) (depth - 1) (d .rest-in)) (ap (concatMap extractedOfElement) (d .rest-is)))
 
-      pub none-left : next′ ≡ pos + 1 → RemovesClass s at size old mid′ pos pos
-      none-left n = record { by = λ t depth i. go (placeOf t) (extracted t) (extracted-wrote t i) }
-        where
-          go : (p : Place) (ts : List Tree) → Wrote old mid′ (pos + 1) next′ ts → Wrote old mid′ pos pos (sequenceIfAny p ts)
-          go p [] w = wrote-none (before-less pos (omega arith) (w .frame))
-          go p (y ∷ ys) w = absurd (omega (arith, w .spans .ends))
-
-      pub sequence-given : {room : ℕ} → GivenTree s at size pos room → room ≡ recordsIn old → GivenMade mid′ pos next′
-      sequence-given g l =
+      pub list-given : {room : ℕ} → GivenTree s at size pos room → room ≡ recordsIn old → rewrite.GivenList s at mid′ pos next′
+      list-given g l =
           let w = extracted-wrote (g .tree) (g .input) in
           let e = elements-ends g c x in
           record {
+            node-inside = omega (arith, g .input .inside, some-size (g .input));
             list = extracted (g .tree);
             spans = w .spans;
             inside = omega (arith, l, w .frame .room, g .fits);
             small = omega (arith, g .input .small);
           }
 
-      pub some-left : (next′ ≡ pos + 1 → ⊥) → (place : Place) → place ≡ headAt s at .place → {new : List ℕ} → Makes makeSequence mid′ new pos next′ place → RemovesClass s at size old new pos next′
-      some-left n place ep {new} m = record {
-        by = λ t depth i. go (placeOf t) (ep ∙ ap (λ (h : Head). h .place) (i .holds .stands .0)) (extracted t) (extracted-wrote t i);
+      pub list-closed : {new : List ℕ} {r : ℕ} → rewrite.Becomes rewrite.sequenceIfAnyOf s at mid′ new pos next′ r → RemovesClass s at size old new pos r
+      list-closed b = record {
+        by = λ t depth i.
+            let w = extracted-wrote t i in
+            wrote-over w (omega arith) (b .by t (i .holds .stands .0) (extracted t) (w .spans));
       }
-        where
-          go : (p : Place) → place ≡ p → (ts : List Tree) → Wrote old mid′ (pos + 1) next′ ts → Wrote old new pos next′ (sequenceIfAny p ts)
-          go p e [] w = absurd (n (omega (arith, w .spans .ends)))
-          go p e (y ∷ ys) w =
-              wrote-over w (omega arith) ((rw e at m) .by (y ∷ ys) (w .spans))

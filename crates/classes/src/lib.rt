@@ -55,12 +55,7 @@ pub fn remove_unused_class(src: &[u8], at: usize, size: usize, out: &mut [u8], p
     ensures { λ r. ⌜ RemovesClass (now (src .entry)) at size (now (out .entry)) (now (out .exit)) pos r ⌝ }
 {
     let base = readings::first_size(src, at, fields::sub_at(src, at) / 2 % 2);
-    let first = pos + 1;
-    let heritage = copy_if_flagged(src, at + 1, base, out, first);
+    let heritage = copy_if_flagged(src, at + 1, base, out, pos + 1);
     let next = extract_elements(src, at + 1 + base, size - 1 - base, out, heritage);
-    if next == first {
-        return pos;
-    }
-    rewrite::make_sequence(out, pos, next, fields::place_at(src, at));
-    next
+    rewrite::sequence_if_any(src, at, out, pos, next)
 }

@@ -134,7 +134,7 @@ pub permits-others : (h : Head) {k kinds : ℕ} → k ≡ h .kind → kinds ≡ 
 unfolding mayStand
 permits-others h {k} ek es c = rw (es, ← ek) (permits-kind k c)
 
-expressions-hold : (c : ℕ) → holds expressions c ≡ kind.isExpression c
+pub expressions-hold : (c : ℕ) → holds expressions c ≡ kind.isExpression c
 expressions-hold c =
     ⊎-elim (λ (b : c < 32). holds-below expressions c (omega arith) ∙ expression-below c b)
     (λ (b : 32 ≤ c). holds-beyond expressions c (omega arith) ∙ sym (expression-beyond c (omega arith))) (lt-or-le c 32)

@@ -32,10 +32,7 @@ const MOST_CHILDREN: usize =
 fn is_expression(kind: usize) -> bool
     ensures { λ r. ⌜ r ≡ isExpression kind ⌝ }
 {
-    if 31 < kind {
-        return true;
-    }
-    (EXPRESSIONS >> kind) % 2 == 1
+    has(EXPRESSIONS, kind)
 }
 
 fn least_children(kind: usize) -> usize

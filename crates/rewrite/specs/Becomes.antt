@@ -2,6 +2,7 @@
 use mathlib.Core.Path.{_≡_, refl, sym, ap, _∙_}
 use mathlib.Core.Bool.{Bool, true, false, cond}
 use mathlib.Core.List.{List, [], _∷_}
+use mathlib.Core.Logic.{_⊎_, inl, inr}
 use Prim.Native.Nat.{ℕ, _+_, _-_, _<_, _≤_}
 use native.Mathlib.Omega.{arith}
 use Rattle.tree.specs.Tree.{Place, Head, Tree, forest, records}
@@ -10,7 +11,7 @@ use Rattle.tree.specs.Fields.{headAt, subtreeAt}
 use Rattle.rules.specs.Lists.{any}
 use Rattle.rules.specs.Handler.{isSpread}
 use Rattle.rules.specs.Made.{placeOf, makeSequence, withChildren}
-use Rattle.rules.specs.Reduce.{noneOneSeveral, staysWith, joinKept}
+use Rattle.rules.specs.Reduce.{noneOneSeveral, sequenceIfAny, staysWith, joinKept}
 use Rattle.output.specs.Records.{MovedRecords, Recorded, before-all}
 use Rattle.output.specs.Trees.{Spans, Wrote, wrote-none, wrote-as, stands-copied, recorded-node}
 use Rattle.output.specs.Lists.{Spanned, Counts, AnyOf}
@@ -30,6 +31,14 @@ pub record Becomes (f : Tree → List Tree → List Tree) (s : List ℕ) (at : �
 
 abbrev pub noneOneSeveralOf : Tree → List Tree → List Tree
 noneOneSeveralOf t ts = noneOneSeveral (placeOf t) ts
+
+abbrev pub sequenceIfAnyOf : Tree → List Tree → List Tree
+sequenceIfAnyOf t ts = sequenceIfAny (placeOf t) ts
+
+-- One or the other, by whether one tree stands alone for the node.
+abbrev pub listOf : Bool → Tree → List Tree → List Tree
+listOf true t ts = noneOneSeveralOf t ts
+listOf false t ts = sequenceIfAnyOf t ts
 
 abbrev pub arrayOf : Tree → List Tree → List Tree
 arrayOf t ts = cond (any isSpread ts) (staysWith t ts) (noneOneSeveral (placeOf t) ts)
@@ -63,8 +72,9 @@ module _ {s : List ℕ} {at : ℕ} {old : List ℕ} {pos end : ℕ} (e : end ≡
       go t [] d = wrote-as (wrote-none (before-all old pos)) (sym (x t))
       go t (y ∷ ys) d = absurd (omega (arith, d .ends))
 
-  pub none-one-several-none : Becomes noneOneSeveralOf s at old old pos end pos
-  none-one-several-none = none-left noneOneSeveralOf (λ t. refl)
+  pub list-none : (alone : Bool) → Becomes (listOf alone) s at old old pos end pos
+  list-none true = none-left noneOneSeveralOf (λ t. refl)
+  list-none false = none-left sequenceIfAnyOf (λ t. refl)
 
   pub stays-none : Becomes staysWith s at old old pos end pos
   stays-none = none-left staysWith (λ t. refl)
@@ -72,8 +82,16 @@ module _ {s : List ℕ} {at : ℕ} {old : List ℕ} {pos end : ℕ} (e : end ≡
   pub join-none : Becomes joinKeptOf s at old old pos end pos
   join-none = none-left joinKeptOf (λ t. refl)
 
+-- `one` is the first tree's size z where one tree stands alone, and else 0.
+abbrev pub OneOf : Bool → ℕ → ℕ → Type 0
+OneOf alone one z = ((alone ≡ true) × (one ≡ z)) ⊎ ((alone ≡ false) × (one ≡ 0))
+
+pub one-small : {alone : Bool} {one z bound : ℕ} → OneOf alone one z → z < bound → one < bound
+one-small (inl (a, o)) l = omega arith
+one-small (inr (a, o)) l = omega arith
+
 -- One tree, by its size z: moved down.
-pub one-left : {s : List ℕ} {at : ℕ} {old new : List ℕ} {pos end z : ℕ} → z ≡ subtreeAt old (pos + 1) → (end ≡ pos + 1 → ⊥) → pos + 1 + z ≡ end → MovedRecords old (pos + 1) z old new pos → Becomes noneOneSeveralOf s at old new pos end (end - 1)
+one-left : {s : List ℕ} {at : ℕ} {old new : List ℕ} {pos end z : ℕ} → z ≡ subtreeAt old (pos + 1) → (end ≡ pos + 1 → ⊥) → pos + 1 + z ≡ end → MovedRecords old (pos + 1) z old new pos → Becomes noneOneSeveralOf s at old new pos end (end - 1)
 one-left {s} {at} {old} {new} {pos} {end} {z} ez n e m = record { by = λ t h ts d. go t ts d }
   where
     go : (t : Tree) (ts : List Tree) → Spans old (pos + 1) end ts → Wrote old new pos (end - 1) (noneOneSeveral (placeOf t) ts)
@@ -88,13 +106,31 @@ one-left {s} {at} {old} {new} {pos} {end} {z} ez n e m = record { by = λ t h ts
 
 -- More than one, by the first one's size z.
 module _ {s : List ℕ} {at : ℕ} {old : List ℕ} {pos end z : ℕ} (ez : z ≡ subtreeAt old (pos + 1)) (n : end ≡ pos + 1 → ⊥) where
-  pub several-left : {new : List ℕ} {place : Place} → (pos + 1 + z ≡ end → ⊥) → place ≡ headAt s at .place → Makes makeSequence old new pos end place → Becomes noneOneSeveralOf s at old new pos end end
+  several-left : {new : List ℕ} {place : Place} → (pos + 1 + z ≡ end → ⊥) → place ≡ headAt s at .place → Makes makeSequence old new pos end place → Becomes noneOneSeveralOf s at old new pos end end
   several-left {new} {place} e ep m = record { by = λ t h ts d. go t (ep ∙ ap (λ (x : Head). x .place) h) ts d }
     where
       go : (t : Tree) → place ≡ t .head .place → (ts : List Tree) → Spans old (pos + 1) end ts → Wrote old new pos end (noneOneSeveral (placeOf t) ts)
       go t p [] d = absurd (n (omega (arith, d .ends)))
       go t p (x ∷ []) d = absurd (e (omega (arith, d .ends, d .stands .2)))
       go t p (x ∷ y ∷ ys) d = wrote-as (m .by (x ∷ y ∷ ys) d) (ap (λ (q : Place). makeSequence q (x ∷ y ∷ ys) ∷ []) p)
+
+  -- A sequence of one or more.
+  any-left : {new : List ℕ} {place : Place} → place ≡ headAt s at .place → Makes makeSequence old new pos end place → Becomes sequenceIfAnyOf s at old new pos end end
+  any-left {new} {place} ep m = record { by = λ t h ts d. go t (ep ∙ ap (λ (x : Head). x .place) h) ts d }
+    where
+      go : (t : Tree) → place ≡ t .head .place → (ts : List Tree) → Spans old (pos + 1) end ts → Wrote old new pos end (sequenceIfAny (placeOf t) ts)
+      go t p [] d = absurd (n (omega (arith, d .ends)))
+      go t p (x ∷ xs) d = wrote-as (m .by (x ∷ xs) d) (ap (λ (q : Place). makeSequence q (x ∷ xs) ∷ []) p)
+
+  pub list-one : (alone : Bool) {one : ℕ} → OneOf alone one z → pos + 1 + one ≡ end → {new : List ℕ} → MovedRecords old (pos + 1) one old new pos
+      → Becomes (listOf alone) s at old new pos end (end - 1)
+  list-one alone (inl (a, o)) e {new} m = rw a (one-left (o ∙ ez) n e m)
+  list-one alone (inr (a, o)) e m = absurd (n (omega arith))
+
+  pub list-several : (alone : Bool) {one : ℕ} → OneOf alone one z → (pos + 1 + one ≡ end → ⊥) → {new : List ℕ} {place : Place} → place ≡ headAt s at .place
+      → Makes makeSequence old new pos end place → Becomes (listOf alone) s at old new pos end end
+  list-several alone (inl (a, o)) e ep m = rw a (several-left (λ x. e (omega (arith, x, o))) ep m)
+  list-several alone (inr (a, o)) e ep m = rw a (any-left ep m)
 
 -- The node itself over what is left.
 pub stays-some : {s : List ℕ} {at : ℕ} {old new : List ℕ} {pos end n z : ℕ} → (end ≡ pos + 1 → ⊥) → Counts old (pos + 1) end n → z ≡ end - pos → Recorded old new pos (headAt s at) n z → Becomes staysWith s at old new pos end end

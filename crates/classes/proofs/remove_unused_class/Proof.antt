@@ -1,6 +1,6 @@
 use mathlib.Core.Path.{refl}
 use native.Mathlib.Omega.{arith}
-use Rattle.classes.specs.Class.{class-first, heritage-within, heritage-given, elements-given, none-left, sequence-given, some-left}
+use Rattle.classes.specs.Class.{class-first, heritage-within, heritage-given, elements-given, list-given, list-closed}
 use borrow.Author.Needs.{needs}
 use Rattle.classes.proofs.remove_unused_class.Statement.{statement}
 use Rattle.classes.proofs.remove_unused_class.Tie as tie
@@ -11,11 +11,11 @@ sub-at-requires c κs = search needs
 first-size-requires : tie.Need-first-size-requires
 first-size-requires c κs = class-first (c .before .before .before .pre .kind-is) _ _ (c .sub-at .ensures .0) refl (c .before .before .before .pre .given)
 
-add-first : tie.Need-add-first
-add-first c = search needs
-
 add-copy-if-flagged : tie.Need-add-copy-if-flagged
 add-copy-if-flagged c = search needs
+
+add-copy-if-flagged-2 : tie.Need-add-copy-if-flagged-2
+add-copy-if-flagged-2 c = search needs
 
 copy-if-flagged-requires : tie.Need-copy-if-flagged-requires
 copy-if-flagged-requires c κs = heritage-given (c .before .before .before .before .before .pre .kind-is) _ _ (c .before .before .sub-at .ensures .0) refl _ (c .before .first-size .ensures) (c .before .before .before .before .before .pre .given)
@@ -35,23 +35,14 @@ sub-extract-elements-2 c = omega (arith, heritage-within (c .before .before .bef
 extract-elements-requires : tie.Need-extract-elements-requires
 extract-elements-requires c κs = elements-given (c .before .before .before .before .before .before .before .before .before .pre .kind-is) _ _ (c .before .before .before .before .before .before .sub-at .ensures .0) refl _ (c .before .before .before .before .before .first-size .ensures) (c .before .before .before .before .before .before .before .before .before .pre .given) (c .before .before .before .copy-if-flagged .ensures) refl
 
+sequence-if-any-requires : tie.Need-sequence-if-any-requires
+sequence-if-any-requires c κs = list-given (c .before .before .before .before .before .before .before .before .before .before .before .before .before .pre .kind-is) _ _ (c .before .before .before .before .before .before .before .before .before .before .sub-at .ensures .0) refl _ (c .before .before .before .before .before .before .before .before .before .first-size .ensures) _ (c .before .before .before .before .before .before .before .copy-if-flagged .ensures) (c .before .before .before .extract-elements .ensures) (c .before .before .before .before .before .before .before .before .before .before .before .before .before .pre .given) refl
+
 same-length : tie.Need-same-length
 same-length c = search needs
 
 returns : tie.Need-returns
-returns c = none-left (c .before .before .before .before .before .before .before .before .before .before .before .before .before .pre .kind-is) _ _ (c .before .before .before .before .before .before .before .before .before .before .sub-at .ensures .0) refl _ (c .before .before .before .before .before .before .before .before .before .first-size .ensures) _ (c .before .before .before .before .before .before .before .copy-if-flagged .ensures) (c .before .before .before .extract-elements .ensures) (c .if1 .taken)
-
-place-at-requires : tie.Need-place-at-requires
-place-at-requires c κs = search needs
-
-make-sequence-requires : tie.Need-make-sequence-requires
-make-sequence-requires c κs = sequence-given (c .before .before .before .before .before .before .before .before .before .before .before .before .before .before .before .pre .kind-is) _ _ (c .before .before .before .before .before .before .before .before .before .before .before .before .sub-at .ensures .0) refl _ (c .before .before .before .before .before .before .before .before .before .before .before .first-size .ensures) _ (c .before .before .before .before .before .before .before .before .before .copy-if-flagged .ensures) (c .before .before .before .before .before .extract-elements .ensures) (c .before .before .before .before .before .before .before .before .before .before .before .before .before .before .before .pre .given) refl
-
-same-length-2 : tie.Need-same-length-2
-same-length-2 c = search needs
-
-returns-2 : tie.Need-returns-2
-returns-2 c = some-left (c .before .before .before .before .before .before .before .before .before .before .before .before .before .before .before .before .before .before .pre .kind-is) _ _ (c .before .before .before .before .before .before .before .before .before .before .before .before .before .before .before .sub-at .ensures .0) refl _ (c .before .before .before .before .before .before .before .before .before .before .before .before .before .before .first-size .ensures) _ (c .before .before .before .before .before .before .before .before .before .before .before .before .copy-if-flagged .ensures) (c .before .before .before .before .before .before .before .before .extract-elements .ensures) (c .before .before .before .before .before .if1 .left) _ (c .before .before .before .place-at .ensures) (c .before .before .make-sequence .ensures)
+returns c = list-closed (c .before .before .before .before .before .before .before .before .before .before .before .before .before .before .before .before .pre .kind-is) _ _ (c .before .before .before .before .before .before .before .before .before .before .before .before .before .sub-at .ensures .0) refl _ (c .before .before .before .before .before .before .before .before .before .before .before .before .first-size .ensures) _ (c .before .before .before .before .before .before .before .before .before .before .copy-if-flagged .ensures) (c .before .before .before .before .before .before .extract-elements .ensures) (c .before .before .sequence-if-any .ensures)
 
 pub remove-unused-class-spec : {M : Type 1} → statement M
 remove-unused-class-spec =
@@ -59,17 +50,14 @@ remove-unused-class-spec =
     (tie.spec
     sub-at-requires
     first-size-requires
-    add-first
     add-copy-if-flagged
+    add-copy-if-flagged-2
     copy-if-flagged-requires
     add-extract-elements
     add-extract-elements-2
     sub-extract-elements
     sub-extract-elements-2
     extract-elements-requires
+    sequence-if-any-requires
     same-length
-    returns
-    place-at-requires
-    make-sequence-requires
-    same-length-2
-    returns-2)
+    returns)
