@@ -1,4 +1,5 @@
 pub mod Node
+pub mod Own
 pub mod Steps
 pub mod Walk
 pub mod First

@@ -85,16 +85,23 @@ module _ {s : List ℕ} {i : ℕ} where
   unfolding isKind
   is-sequence k e t n = sym (ap (λ (x : ℕ). eqb x 13) (e ∙ ap (λ (x : Head). x .kind) (n .stands .0)))
 
+  itself : ((t : Tree) → Node s i t → lastOrItself t ≡ t) → Finds s i lastOrItself i
+  itself e = record { by = λ t n. subst⁻¹ (λ (x : Tree). Node s i x) (e t n) n; ends = λ t n. ap (λ (x : Tree). i + size x) (e t n) }
+
   pub finds-own : (k : ℕ) → k ≡ headAt s i .kind → (k ≡ 13 → ⊥) → Finds s i lastOrItself i
-  finds-own k e z = record { by = λ t n. subst⁻¹ (λ (x : Tree). Node s i x) (last-own t (is-sequence k e t n ∙ ne-eqb k 13 z)) n }
+  finds-own k e z = itself (λ t n. last-own t (is-sequence k e t n ∙ ne-eqb k 13 z))
 
   pub finds-empty : (z : ℕ) → z ≡ subtreeAt s i → z ≡ 1 → Finds s i lastOrItself i
-  finds-empty z e o = record { by = λ t n. subst⁻¹ (λ (x : Tree). Node s i x) (last-empty t (omega (arith, n .stands .2))) n }
+  finds-empty z e o = itself (λ t n. last-empty t (omega (arith, n .stands .2)))
 
   pub finds-child : {l r : ℕ} (k : ℕ) → k ≡ headAt s i .kind → k ≡ 13 → Finds s i lastChild l → Finds s l lastOrItself r → Finds s i lastOrItself r
   finds-child {l} {r} k e o a b = record {
-    by = λ t n. subst⁻¹ (λ (x : Tree). Node s r x) (last-sequence t (is-sequence k e t n ∙ eq-eqb k 13 o)) (b .by (lastChild t) (a .by t n));
+    by = λ t n. subst⁻¹ (λ (x : Tree). Node s r x) (same t n) (b .by (lastChild t) (a .by t n));
+    ends = λ t n. ap (λ (x : Tree). r + size x) (same t n) ∙ b .ends (lastChild t) (a .by t n) ∙ a .ends t n;
   }
+    where
+      same : (t : Tree) → Node s i t → lastOrItself t ≡ lastOrItself (lastChild t)
+      same t n = last-sequence t (is-sequence k e t n ∙ eq-eqb k 13 o)
 
 -- The last child is smaller than its parent, if there is one.
 last-within : (x : Tree) (f : Forest) → size (lastFrom x (trees f)) ≤ size x + records f
@@ -113,9 +120,10 @@ last-smaller {s} {i} {l} n w z y ez o ey =
     go nil a b = absurd (o (omega arith))
     go (node h cs rest) a b = let c = last-within (record { head = h; kids = cs }) rest in omega arith
 
--- At record r stands the last of the tree at record `last` and the list that stands from record p on.
-pub record FindsLast (s : List ℕ) (last p size r : ℕ) : Type 0 where
-  pub by : (x : Tree) (f : Forest) → Node s last x → Holds s p size f → Node s r (lastFrom x (trees f))
+-- At record r stands the last of the tree at record `last` and the n records of a list from record p on, and it ends where they do.
+pub record FindsLast (s : List ℕ) (last p n r : ℕ) : Type 0 where
+  pub by : (x : Tree) (f : Forest) → Node s last x → Holds s p n f → Node s r (lastFrom x (trees f))
+  pub ends : (x : Tree) (f : Forest) → Node s last x → Holds s p n f → (records f ≡ 0 → last + size x ≡ p) → r + size (lastFrom x (trees f)) ≡ p + n
 
 -- Where the walk over the children of record i stands: `last` is the last record passed, p the next, e their end.
 pub record LastWalked (s : List ℕ) (i last p e : ℕ) : Type 0 where
@@ -131,13 +139,20 @@ last-start {s} {i} {z} n e =
     record {
       inside = omega (arith, m);
       held = rw x at (some-children n);
-      finds = λ r w. record { by = λ t d. w .by t (t .kids) d (rw x at (node-children t d)) };
+      finds = λ r w. record {
+        by = λ t d. w .by t (t .kids) d (rw x at (node-children t d));
+        ends = λ t d. omega (arith, w .ends t (t .kids) d (rw x at (node-children t d)) (λ (y : records (t .kids) ≡ 0). omega arith), d .stands .2);
+      };
     }
 
 module _ {s : List ℕ} {i last p e : ℕ} (w : LastWalked s i last p e) where
   pub last-done : e ≤ p → Finds s i lastChild last
-  last-done l = w .finds last (record { by = go })
+  last-done l = w .finds last (record { by = go; ends = ends })
     where
+      ends : (x : Tree) (f : Forest) → Node s last x → Holds s p (e - p) f → (records f ≡ 0 → last + size x ≡ p) → last + size (lastFrom x (trees f)) ≡ p + (e - p)
+      ends x nil n d h = omega (arith, h refl)
+      ends x (node h cs rest) n d z = absurd (omega (arith, d .sized))
+
       go : (x : Tree) (f : Forest) → Node s last x → Holds s p (e - p) f → Node s last (lastFrom x (trees f))
       go x nil n d = n
       go x (node h cs rest) n d = absurd (omega (arith, d .sized))
@@ -149,13 +164,20 @@ module _ {s : List ℕ} {i last p e : ℕ} (w : LastWalked s i last p e) where
       rw ez (record {
         inside = omega (arith, w .inside);
         held = rw y at (held-after (w .held) (omega arith));
-        finds = λ r n. w .finds r (record { by = go r (rw (← y) at n) });
+        finds = λ r n. w .finds r (record { by = go r (rw (← y) at n); ends = ends within r (rw (← y) at n) });
       })
     where
       go : (r : ℕ) → FindsLast s p (p + subtreeAt s p) (e - p - subtreeAt s p) r → (x : Tree) (f : Forest) → Node s last x → Holds s p (e - p) f
           → Node s r (lastFrom x (trees f))
       go r n x nil m d = absurd (omega (arith, d .sized))
       go r n x (node h cs rest) m d = n .by (record { head = h; kids = cs }) rest (first-node h cs rest d (w .held .inside)) (first-of h cs rest d .after)
+
+      ends : subtreeAt s p ≤ e - p → (r : ℕ) → FindsLast s p (p + subtreeAt s p) (e - p - subtreeAt s p) r → (x : Tree) (f : Forest) → Node s last x → Holds s p (e - p) f
+          → (records f ≡ 0 → last + size x ≡ p) → r + size (lastFrom x (trees f)) ≡ p + (e - p)
+      ends i r n x nil m d z = absurd (omega (arith, d .sized))
+      ends i r n x (node h cs rest) m d z =
+          let first = first-node h cs rest d (w .held .inside) in
+          omega (arith, n .ends (record { head = h; kids = cs }) rest first (first-of h cs rest d .after) (λ y. omega (arith, first .stands .2)))
 
 -- At most one expression is the last.
 AtMostOne : List Tree → Type 0

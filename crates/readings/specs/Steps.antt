@@ -17,7 +17,7 @@ use Rattle.rules.specs.Settings.{annotations}
 use Rattle.rules.specs.Handler.{isKind, firstIs, isAddition}
 use Rattle.rules.specs.Facts.{annotated, listed, pureNew}
 use Rattle.tree.specs.Kind as kind
-use Rattle.readings.specs.Node.{SomeNode, Tells}
+use Rattle.readings.specs.Node.{alone, SomeNode, Tells}
 
 -- What is said of the head that was read is said of the tree's.
 tells-head : {s : List ℕ} {i : ℕ} (p : Head → Bool) {r : Bool} → r ≡ p (headAt s i) → Tells s i (λ t. p (t .head)) r
@@ -110,17 +110,20 @@ module _ {s : List ℕ} {i : ℕ} (b f : ℕ) (e : f ≡ headAt s i .facts) wher
         let y : b / 1 % 2 ≡ 1 → ⊥ = λ (z : b / 1 % 2 ≡ 1). a (omega arith) in
         pure-facts (rw (ne-eqb (f / 64 % 2) 1 l, ne-eqb (b / 1 % 2) 1 y))
 
--- The tests of a record for an addition.
-module _ {b : List ℕ} {i : ℕ} (k : ℕ) (ek : k ≡ headAt b i .kind) where
-  pub no-addition : (k ≡ kind.binary → ⊥) → Tells b i isAddition false
-  unfolding isAddition isKind
-  no-addition n = record { by = λ t d. sym (rw (ne-eqb (t .head .kind) kind.binary (λ e. n (ek ∙ ap (λ (h : Head). h .kind) (d .stands .0) ∙ e)))) }
+-- Two tests of one number that was read, the second made only where the first passes.
+module _ {x y : ℕ} (e : x ≡ y) (p q : ℕ → Bool) where
+  pub both-pass : p x ≡ true → q x ≡ (p y && q y)
+  both-pass h = ap q e ∙ sym (ap (λ (b : Bool). b && q y) (ap p (sym e) ∙ h))
 
-  pub addition-by-sub : k ≡ kind.binary → (u : ℕ) → u ≡ headAt b i .sub → Tells b i isAddition (eqb u 2)
+  pub first-fails : p x ≡ false → false ≡ (p y && q y)
+  first-fails h = sym (ap (λ (b : Bool). b && q y) (ap p (sym e) ∙ h))
+
+-- The tests of a record for an addition, by the kind k of its head h.
+module _ (h : Head) (k : ℕ) (ek : k ≡ h .kind) where
+  pub no-addition : (k ≡ kind.binary → ⊥) → false ≡ isAddition (alone h)
   unfolding isAddition isKind
-  addition-by-sub e u eu = record {
-    by = λ t d.
-        let x : t .head .kind ≡ kind.binary = sym (ek ∙ ap (λ (h : Head). h .kind) (d .stands .0)) ∙ e in
-        let y : u ≡ t .head .sub = eu ∙ ap (λ (h : Head). h .sub) (d .stands .0) in
-        ap (λ (z : ℕ). eqb z 2) y ∙ sym (ap (λ (w : Bool). w && eqb (t .head .sub) 2) (eq-eqb (t .head .kind) kind.binary x));
-  }
+  no-addition n = sym (ap (λ (w : Bool). w && eqb (h .sub) 2) (ne-eqb (h .kind) kind.binary (λ e. n (ek ∙ e))))
+
+  pub addition-by-sub : k ≡ kind.binary → (u : ℕ) → u ≡ h .sub → eqb u 2 ≡ isAddition (alone h)
+  unfolding isAddition isKind
+  addition-by-sub e u eu = ap (λ (z : ℕ). eqb z 2) eu ∙ sym (ap (λ (w : Bool). w && eqb (h .sub) 2) (eq-eqb (h .kind) kind.binary (sym ek ∙ e)))

@@ -1,23 +1,24 @@
 // A class by its parts: what makes it an effect, what keeps it, and what its elements say.
+ghost use mathlib.Core.Path.{_≡_};
 ghost use Prim.Native.Nat.{_+_, _≤_};
 ghost use Rattle.tree.specs.Room.{recordsIn};
 ghost use Rattle.rules.specs.Lists.{any};
 ghost use Rattle.rules.specs.Class.{decoratedClass, hasStaticValue, nonemptyStaticBlock, decoratedElement, indexSignature, flaggedStaticValue, elements, arrowHeritage, keptClass};
 ghost use Rattle.rules.specs.Effects.{classIsEffect};
-ghost use Rattle.readings.specs.Node.{SomeNode, Tells};
+ghost use Rattle.readings.specs.Node.{nodeAt, SomeNode, Tells};
 ghost use Rattle.readings.specs.Walk.{ListAt};
 ghost use Rattle.readings.specs.Class.{hasHeritage, keepsClass};
 
 pub fn decorated_class_at(src: &[u8], i: usize) -> bool
     requires { ⌜ i + 1 ≤ recordsIn (now src) ⌝ }
-    ensures { λ r. ⌜ Tells (now (src .entry)) i decoratedClass r ⌝ }
+    ensures { λ r. ⌜ r ≡ decoratedClass (nodeAt (now (src .entry)) i) ⌝ }
 {
     fields::sub_at(src, i) % 2 == 1
 }
 
 pub fn has_static_value_at(src: &[u8], i: usize) -> bool
     requires { ⌜ i + 1 ≤ recordsIn (now src) ⌝ }
-    ensures { λ r. ⌜ Tells (now (src .entry)) i hasStaticValue r ⌝ }
+    ensures { λ r. ⌜ r ≡ hasStaticValue (nodeAt (now (src .entry)) i) ⌝ }
 {
     let sub = fields::sub_at(src, i);
     if sub / 8 % 2 == 1 {
@@ -28,7 +29,7 @@ pub fn has_static_value_at(src: &[u8], i: usize) -> bool
 
 pub fn nonempty_static_block_at(src: &[u8], i: usize) -> bool
     requires { ⌜ i + 1 ≤ recordsIn (now src) ⌝ }
-    ensures { λ r. ⌜ Tells (now (src .entry)) i nonemptyStaticBlock r ⌝ }
+    ensures { λ r. ⌜ r ≡ nonemptyStaticBlock (nodeAt (now (src .entry)) i) ⌝ }
 {
     let sub = fields::sub_at(src, i);
     if sub % 8 == 4 {
@@ -39,14 +40,14 @@ pub fn nonempty_static_block_at(src: &[u8], i: usize) -> bool
 
 fn decorated_element_at(src: &[u8], i: usize) -> bool
     requires { ⌜ i + 1 ≤ recordsIn (now src) ⌝ }
-    ensures { λ r. ⌜ Tells (now (src .entry)) i decoratedElement r ⌝ }
+    ensures { λ r. ⌜ r ≡ decoratedElement (nodeAt (now (src .entry)) i) ⌝ }
 {
     fields::sub_at(src, i) / 32 % 2 == 1
 }
 
 fn index_signature_at(src: &[u8], i: usize) -> bool
     requires { ⌜ i + 1 ≤ recordsIn (now src) ⌝ }
-    ensures { λ r. ⌜ Tells (now (src .entry)) i indexSignature r ⌝ }
+    ensures { λ r. ⌜ r ≡ indexSignature (nodeAt (now (src .entry)) i) ⌝ }
 {
     fields::sub_at(src, i) % 8 == 5
 }

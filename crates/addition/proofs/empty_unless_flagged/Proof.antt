@@ -1,6 +1,7 @@
 use Rattle.addition.specs.Sides.{one-inside, flagged-stays, clear-emptied}
 use native.Mathlib.Omega.{arith}
 use borrow.Author.Needs.{needs}
+use Rattle.readings.specs.Own.{tells-flagged}
 use Rattle.addition.proofs.empty_unless_flagged.Statement.{statement}
 use Rattle.addition.proofs.empty_unless_flagged.Tie as tie
 
@@ -11,7 +12,7 @@ same-length : tie.Need-same-length
 same-length c = search needs
 
 returns : tie.Need-returns
-returns c = flagged-stays (c .before .before .before .before .pre) _ (c .before .flagged-at .ensures) (c .if1 .taken)
+returns c = flagged-stays (c .before .before .before .before .pre) _ (tells-flagged (c .before .flagged-at .ensures)) (c .if1 .taken)
 
 place-at-requires : tie.Need-place-at-requires
 place-at-requires c κs = one-inside (c .before .before .before .before .before .pre)
@@ -29,7 +30,7 @@ same-length-2 : tie.Need-same-length-2
 same-length-2 c = search needs
 
 returns-2 : tie.Need-returns-2
-returns-2 c = clear-emptied (c .before .before .before .before .before .before .before .before .before .before .pre) _ (c .before .before .before .before .before .before .before .flagged-at .ensures) (c .before .before .before .before .before .before .if1 .left) _ (c .before .before .before .before .place-at .ensures) (c .before .before .make-at .ensures)
+returns-2 c = clear-emptied (c .before .before .before .before .before .before .before .before .before .before .pre) _ (tells-flagged (c .before .before .before .before .before .before .before .flagged-at .ensures)) (c .before .before .before .before .before .before .if1 .left) _ (c .before .before .before .before .place-at .ensures) (c .before .before .make-at .ensures)
 
 pub empty-unless-flagged-spec : {M : Type 1} → statement M
 empty-unless-flagged-spec =

@@ -1,5 +1,6 @@
 use Rattle.classes.specs.Extract.{copies-none, some-inside, copies-flagged, copies-clear}
 use borrow.Author.Needs.{needs}
+use Rattle.readings.specs.Own.{tells-flagged}
 use Rattle.classes.proofs.copy_if_flagged.Statement.{statement}
 use Rattle.classes.proofs.copy_if_flagged.Tie as tie
 
@@ -16,10 +17,10 @@ same-length : tie.Need-same-length
 same-length c = search needs
 
 returns-2 : tie.Need-returns-2
-returns-2 c = copies-flagged (c .before .before .before .before .before .before .if1 .left) _ (c .before .before .before .before .before .flagged-at .ensures) (c .before .before .before .before .if2 .taken) (c .before .before .copy-tree .ensures)
+returns-2 c = copies-flagged (c .before .before .before .before .before .before .if1 .left) _ (tells-flagged (c .before .before .before .before .before .flagged-at .ensures)) (c .before .before .before .before .if2 .taken) (c .before .before .copy-tree .ensures)
 
 returns-3 : tie.Need-returns-3
-returns-3 c = copies-clear (c .before .before .if1 .left) _ (c .before .flagged-at .ensures) (c .if2 .left)
+returns-3 c = copies-clear (c .before .before .if1 .left) _ (tells-flagged (c .before .flagged-at .ensures)) (c .if2 .left)
 
 pub copy-if-flagged-spec : {M : Type 1} → statement M
 copy-if-flagged-spec =

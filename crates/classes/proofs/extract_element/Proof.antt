@@ -2,6 +2,7 @@ use mathlib.Core.Path.{refl}
 use native.Mathlib.Omega.{arith}
 use Rattle.classes.specs.Extract.{element-first, key-within, key-given, key-ends, key-room, key-then-value, only-key}
 use borrow.Author.Needs.{needs}
+use Rattle.readings.specs.Own.{tells-static-value}
 use Rattle.classes.proofs.extract_element.Statement.{statement}
 use Rattle.classes.proofs.extract_element.Tie as tie
 
@@ -42,13 +43,13 @@ same-length : tie.Need-same-length
 same-length c = search needs
 
 returns : tie.Need-returns
-returns c = key-then-value _ _ (c .before .before .before .before .before .before .before .before .before .before .before .sub-at .ensures .0) refl _ (c .before .before .before .before .before .before .before .before .before .before .first-size .ensures) (c .before .before .before .before .before .before .before .before .copy-if-flagged .ensures) _ (c .before .before .before .before .before .has-static-value-at .ensures) (c .before .before .before .before .if1 .taken) _ refl (c .before .before .copy-records .ensures)
+returns c = key-then-value _ _ (c .before .before .before .before .before .before .before .before .before .before .before .sub-at .ensures .0) refl _ (c .before .before .before .before .before .before .before .before .before .before .first-size .ensures) (c .before .before .before .before .before .before .before .before .copy-if-flagged .ensures) _ (tells-static-value (c .before .before .before .before .before .has-static-value-at .ensures)) (c .before .before .before .before .if1 .taken) _ refl (c .before .before .copy-records .ensures)
 
 same-length-2 : tie.Need-same-length-2
 same-length-2 c = search needs
 
 returns-2 : tie.Need-returns-2
-returns-2 c = only-key _ _ (c .before .before .before .before .before .before .before .sub-at .ensures .0) refl _ (c .before .before .before .before .before .before .first-size .ensures) (c .before .before .before .before .copy-if-flagged .ensures) _ (c .before .has-static-value-at .ensures) (c .if1 .left)
+returns-2 c = only-key _ _ (c .before .before .before .before .before .before .before .sub-at .ensures .0) refl _ (c .before .before .before .before .before .before .first-size .ensures) (c .before .before .before .before .copy-if-flagged .ensures) _ (tells-static-value (c .before .has-static-value-at .ensures)) (c .if1 .left)
 
 pub extract-element-spec : {M : Type 1} → statement M
 extract-element-spec =

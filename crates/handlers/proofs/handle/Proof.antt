@@ -2,6 +2,7 @@ use Rattle.rules.specs.Settings.{derived}
 use Rattle.handlers.specs.Choice.{stays}
 use Rattle.handlers.specs.Kinds.{handles-zero, handles-leaf, handles-this, handles-array, handles-elision, handles-spread, handles-object, handles-property, handles-template, handles-sequence, handles-unary, handles-binary, handles-call, handles-new, handles-class, handles-other}
 use borrow.Author.Needs.{needs}
+use Rattle.readings.specs.Own.{tells-flagged}
 use Rattle.handlers.proofs.handle.Statement.{statement}
 use Rattle.handlers.proofs.handle.Tie as tie
 
@@ -18,7 +19,7 @@ stays-if-requires : tie.Need-stays-if-requires
 stays-if-requires c κs = search needs
 
 returns-2 : tie.Need-returns-2
-returns-2 c = handles-leaf _ _ (c .before .before .before .before .kind-at .ensures .0) (c .before .before .if2 .left) (c .before .before .before .if1 .taken) (stays (c .stays-if .ensures) (c .before .flagged-at .ensures))
+returns-2 c = handles-leaf _ _ (c .before .before .before .before .kind-at .ensures .0) (c .before .before .if2 .left) (c .before .before .before .if1 .taken) (stays (c .stays-if .ensures) (tells-flagged (c .before .flagged-at .ensures)))
 
 stays-if-requires-2 : tie.Need-stays-if-requires-2
 stays-if-requires-2 c κs = search needs
@@ -61,7 +62,7 @@ returns-5 : tie.Need-returns-5
 returns-5 c = handles-elision _ _ (c .before .before .kind-at .ensures .0) (c .match .keys3)
 
 returns-6 : tie.Need-returns-6
-returns-6 c = handles-spread _ _ (c .before .before .before .before .kind-at .ensures .0) (c .before .before .match .keys4) (stays (c .stays-if3 .ensures) (c .before .flagged-at2 .ensures))
+returns-6 c = handles-spread _ _ (c .before .before .before .before .kind-at .ensures .0) (c .before .before .match .keys4) (stays (c .stays-if3 .ensures) (tells-flagged (c .before .flagged-at2 .ensures)))
 
 returns-7 : tie.Need-returns-7
 returns-7 c = handles-object _ _ (c .before .before .before .kind-at .ensures .0) (c .before .match .keys5) (c .remove-unused-object-expr .ensures)

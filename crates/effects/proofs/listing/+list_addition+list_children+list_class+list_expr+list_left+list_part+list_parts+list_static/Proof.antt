@@ -16,6 +16,7 @@ use Rattle.effects.specs.Sum.{sum-planned, sum-told, left-inside, left-g
 use Rattle.effects.specs.Class.{class-planned, class-first, heritage-within, heritage-given, class-itself, keys-given, statics-given, class-done}
 use borrow.Fn.Kinds.{In}
 use borrow.Fn.PlainCycle.{Measures, is, falls, and}
+use Rattle.readings.specs.Own.{tells-addition, tells-flagged, tells-possible-symbol, tells-static-block, tells-static-value, tells-string-fact}
 use Rattle.effects.proofs.listing.list_addition.Reads as list-addition
 use Rattle.effects.proofs.listing.list_addition.Kinds as list-addition-kinds
 use Rattle.effects.proofs.listing.+list_addition+list_children+list_class+list_expr+list_left+list_part+list_parts+list_static.Lts-list_addition as list-addition-lts
@@ -209,13 +210,13 @@ list-addition-possible-symbol-at-requires : (t : ℕ) → list-addition-lts.Need
 list-addition-possible-symbol-at-requires t c κs = right-inside _ _ _ _ (c .before .before .before .before .before .before .before .before .before .before .before .before .before .pre .1 .kind-is) (c .before .before .before .before .before .before .before .before .before .before .before .before .before .pre .1 .sub-is) (c .before .before .before .before .before .before .before .before .before .before .before .before .before .pre .1 .given) _ (c .before .before .before .before .before .before .before .before .before .before .subtree-at .ensures .0)
 
 list-addition-list-if-requires : (t : ℕ) → list-addition-lts.Need-list-if-requires (list-addition-calls t) (list-addition-at t) list-addition.Post
-list-addition-list-if-requires t c κs = rw (c .before .before .before .before .before .list-children .kept .1 .1 .1 .1 .1 .0, c .before .before .before .before .before .before .before .before .before .before .list-left .kept .1 .1 .1 .1 .1 .0) (right-coercion _ _ _ _ (c .before .before .before .before .before .before .before .before .before .before .before .before .before .before .before .pre .1 .kind-is) (c .before .before .before .before .before .before .before .before .before .before .before .before .before .before .before .pre .1 .sub-is) (c .before .before .before .before .before .before .before .before .before .before .before .before .subtree-at .ensures .0) (c .before .before .before .before .before .before .before .subtree-at2 .ensures .0) (c .before .before .before .before .before .before .before .before .before .before .list-left .ensures) (listed-one (c .before .before .before .before .before .list-children .ensures)) _ (c .before .before .if1 .taken) (c .before .possible-symbol-at .ensures) (c .before .before .before .before .before .before .before .before .before .before .before .before .before .before .before .pre .1 .given))
+list-addition-list-if-requires t c κs = rw (c .before .before .before .before .before .list-children .kept .1 .1 .1 .1 .1 .0, c .before .before .before .before .before .before .before .before .before .before .list-left .kept .1 .1 .1 .1 .1 .0) (right-coercion _ _ _ _ (c .before .before .before .before .before .before .before .before .before .before .before .before .before .before .before .pre .1 .kind-is) (c .before .before .before .before .before .before .before .before .before .before .before .before .before .before .before .pre .1 .sub-is) (c .before .before .before .before .before .before .before .before .before .before .before .before .subtree-at .ensures .0) (c .before .before .before .before .before .before .before .subtree-at2 .ensures .0) (c .before .before .before .before .before .before .before .before .before .before .list-left .ensures) (listed-one (c .before .before .before .before .before .list-children .ensures)) _ (c .before .before .if1 .taken) (tells-possible-symbol (c .before .possible-symbol-at .ensures)) (c .before .before .before .before .before .before .before .before .before .before .before .before .before .before .before .pre .1 .given))
 
 list-addition-same-length : (t : ℕ) → list-addition-lts.Need-same-length (list-addition-calls t) (list-addition-at t) list-addition.Post
 list-addition-same-length t c = search needs
 
 list-addition-returns : (t : ℕ) → list-addition-lts.Need-returns (list-addition-calls t) (list-addition-at t) list-addition.Post
-list-addition-returns t c = right-done _ _ _ _ (c .before .before .before .before .before .before .before .before .before .before .before .before .before .before .before .before .before .before .pre .1 .kind-is) (c .before .before .before .before .before .before .before .before .before .before .before .before .before .before .before .before .before .before .pre .1 .sub-is) (c .before .before .before .before .before .before .before .before .before .before .before .before .before .before .before .subtree-at .ensures .0) (c .before .before .before .before .before .before .before .before .before .before .subtree-at2 .ensures .0) (c .before .before .before .before .before .before .before .before .before .before .before .before .before .list-left .ensures) (listed-one (c .before .before .before .before .before .before .before .before .list-children .ensures)) _ (c .before .before .before .before .before .if1 .taken) (c .before .before .before .before .possible-symbol-at .ensures) (c .before .before .list-if .ensures)
+list-addition-returns t c = right-done _ _ _ _ (c .before .before .before .before .before .before .before .before .before .before .before .before .before .before .before .before .before .before .pre .1 .kind-is) (c .before .before .before .before .before .before .before .before .before .before .before .before .before .before .before .before .before .before .pre .1 .sub-is) (c .before .before .before .before .before .before .before .before .before .before .before .before .before .before .before .subtree-at .ensures .0) (c .before .before .before .before .before .before .before .before .before .before .subtree-at2 .ensures .0) (c .before .before .before .before .before .before .before .before .before .before .before .before .before .list-left .ensures) (listed-one (c .before .before .before .before .before .before .before .before .list-children .ensures)) _ (c .before .before .before .before .before .if1 .taken) (tells-possible-symbol (c .before .before .before .before .possible-symbol-at .ensures)) (c .before .before .list-if .ensures)
 
 list-addition-string-fact-at-requires : (t : ℕ) → list-addition-lts.Need-string-fact-at-requires (list-addition-calls t) (list-addition-at t) list-addition.Post
 list-addition-string-fact-at-requires t c κs = right-inside _ _ _ _ (c .before .before .before .before .before .before .before .before .before .before .before .before .before .pre .1 .kind-is) (c .before .before .before .before .before .before .before .before .before .before .before .before .before .pre .1 .sub-is) (c .before .before .before .before .before .before .before .before .before .before .before .before .before .pre .1 .given) _ (c .before .before .before .before .before .before .before .before .before .before .subtree-at .ensures .0)
@@ -230,25 +231,25 @@ list-addition-add-list-if : (t : ℕ) → list-addition-lts.Need-add-list-if (li
 list-addition-add-list-if t c = omega (arith, left-inside _ _ _ _ (c .before .before .before .before .before .before .before .before .before .before .before .before .before .before .before .before .pre .1 .kind-is) (c .before .before .before .before .before .before .before .before .before .before .before .before .before .before .before .before .pre .1 .sub-is) (c .before .before .before .before .before .before .before .before .before .before .before .before .before .before .before .before .pre .1 .given))
 
 list-addition-list-if-requires-2 : (t : ℕ) → list-addition-lts.Need-list-if-requires-2 (list-addition-calls t) (list-addition-at t) list-addition.Post
-list-addition-list-if-requires-2 t c κs = rw (c .before .before .before .before .before .before .before .list-children .kept .1 .1 .1 .1 .1 .0, c .before .before .before .before .before .before .before .before .before .before .before .before .list-left .kept .1 .1 .1 .1 .1 .0) (left-coercion _ _ _ _ (c .before .before .before .before .before .before .before .before .before .before .before .before .before .before .before .before .before .pre .1 .kind-is) (c .before .before .before .before .before .before .before .before .before .before .before .before .before .before .before .before .before .pre .1 .sub-is) (c .before .before .before .before .before .before .before .before .before .before .before .before .before .before .subtree-at .ensures .0) (c .before .before .before .before .before .before .before .before .before .subtree-at2 .ensures .0) (c .before .before .before .before .before .before .before .before .before .before .before .before .list-left .ensures) (listed-one (c .before .before .before .before .before .before .before .list-children .ensures)) _ (c .before .before .before .before .if1 .left) _ (c .before .before .before .string-fact-at .ensures) (c .before .before .if2 .taken) (c .before .possible-symbol-at2 .ensures) (c .before .before .before .before .before .before .before .before .before .before .before .before .before .before .before .before .before .pre .1 .given))
+list-addition-list-if-requires-2 t c κs = rw (c .before .before .before .before .before .before .before .list-children .kept .1 .1 .1 .1 .1 .0, c .before .before .before .before .before .before .before .before .before .before .before .before .list-left .kept .1 .1 .1 .1 .1 .0) (left-coercion _ _ _ _ (c .before .before .before .before .before .before .before .before .before .before .before .before .before .before .before .before .before .pre .1 .kind-is) (c .before .before .before .before .before .before .before .before .before .before .before .before .before .before .before .before .before .pre .1 .sub-is) (c .before .before .before .before .before .before .before .before .before .before .before .before .before .before .subtree-at .ensures .0) (c .before .before .before .before .before .before .before .before .before .subtree-at2 .ensures .0) (c .before .before .before .before .before .before .before .before .before .before .before .before .list-left .ensures) (listed-one (c .before .before .before .before .before .before .before .list-children .ensures)) _ (c .before .before .before .before .if1 .left) _ (tells-string-fact (c .before .before .before .string-fact-at .ensures)) (c .before .before .if2 .taken) (tells-possible-symbol (c .before .possible-symbol-at2 .ensures)) (c .before .before .before .before .before .before .before .before .before .before .before .before .before .before .before .before .before .pre .1 .given))
 
 list-addition-same-length-2 : (t : ℕ) → list-addition-lts.Need-same-length-2 (list-addition-calls t) (list-addition-at t) list-addition.Post
 list-addition-same-length-2 t c = search needs
 
 list-addition-returns-2 : (t : ℕ) → list-addition-lts.Need-returns-2 (list-addition-calls t) (list-addition-at t) list-addition.Post
-list-addition-returns-2 t c = left-done _ _ _ _ (c .before .before .before .before .before .before .before .before .before .before .before .before .before .before .before .before .before .before .before .before .pre .1 .kind-is) (c .before .before .before .before .before .before .before .before .before .before .before .before .before .before .before .before .before .before .before .before .pre .1 .sub-is) (c .before .before .before .before .before .before .before .before .before .before .before .before .before .before .before .before .before .subtree-at .ensures .0) (c .before .before .before .before .before .before .before .before .before .before .before .before .subtree-at2 .ensures .0) (c .before .before .before .before .before .before .before .before .before .before .before .before .before .before .before .list-left .ensures) (listed-one (c .before .before .before .before .before .before .before .before .before .before .list-children .ensures)) _ (c .before .before .before .before .before .before .before .if1 .left) _ (c .before .before .before .before .before .before .string-fact-at .ensures) (c .before .before .before .before .before .if2 .taken) (c .before .before .before .before .possible-symbol-at2 .ensures) (c .before .before .list-if2 .ensures)
+list-addition-returns-2 t c = left-done _ _ _ _ (c .before .before .before .before .before .before .before .before .before .before .before .before .before .before .before .before .before .before .before .before .pre .1 .kind-is) (c .before .before .before .before .before .before .before .before .before .before .before .before .before .before .before .before .before .before .before .before .pre .1 .sub-is) (c .before .before .before .before .before .before .before .before .before .before .before .before .before .before .before .before .before .subtree-at .ensures .0) (c .before .before .before .before .before .before .before .before .before .before .before .before .subtree-at2 .ensures .0) (c .before .before .before .before .before .before .before .before .before .before .before .before .before .before .before .list-left .ensures) (listed-one (c .before .before .before .before .before .before .before .before .before .before .list-children .ensures)) _ (c .before .before .before .before .before .before .before .if1 .left) _ (tells-string-fact (c .before .before .before .before .before .before .string-fact-at .ensures)) (c .before .before .before .before .before .if2 .taken) (tells-possible-symbol (c .before .before .before .before .possible-symbol-at2 .ensures)) (c .before .before .list-if2 .ensures)
 
 list-addition-flagged-at-requires : (t : ℕ) → list-addition-lts.Need-flagged-at-requires (list-addition-calls t) (list-addition-at t) list-addition.Post
 list-addition-flagged-at-requires t c κs = given-inside (c .before .before .before .before .before .before .before .before .before .before .before .before .before .before .before .pre .1 .given)
 
 list-addition-list-if-requires-3 : (t : ℕ) → list-addition-lts.Need-list-if-requires-3 (list-addition-calls t) (list-addition-at t) list-addition.Post
-list-addition-list-if-requires-3 t c κs = rw (c .before .before .before .before .before .before .before .list-children .kept .1 .1 .1 .1 .1 .0, c .before .before .before .before .before .before .before .before .before .before .before .before .list-left .kept .1 .1 .1 .1 .1 .0) (sum-itself _ _ _ _ (c .before .before .before .before .before .before .before .before .before .before .before .before .before .before .before .before .before .pre .1 .kind-is) (c .before .before .before .before .before .before .before .before .before .before .before .before .before .before .before .before .before .pre .1 .sub-is) (c .before .before .before .before .before .before .before .before .before .before .before .before .before .before .subtree-at .ensures .0) (c .before .before .before .before .before .before .before .before .before .subtree-at2 .ensures .0) (c .before .before .before .before .before .before .before .before .before .before .before .before .list-left .ensures) (listed-one (c .before .before .before .before .before .before .before .list-children .ensures)) _ (c .before .before .before .before .if1 .left) _ (c .before .before .before .string-fact-at .ensures) (c .before .before .if2 .left) (c .before .flagged-at .ensures) (c .before .before .before .before .before .before .before .before .before .before .before .before .before .before .before .before .before .pre .1 .given))
+list-addition-list-if-requires-3 t c κs = rw (c .before .before .before .before .before .before .before .list-children .kept .1 .1 .1 .1 .1 .0, c .before .before .before .before .before .before .before .before .before .before .before .before .list-left .kept .1 .1 .1 .1 .1 .0) (sum-itself _ _ _ _ (c .before .before .before .before .before .before .before .before .before .before .before .before .before .before .before .before .before .pre .1 .kind-is) (c .before .before .before .before .before .before .before .before .before .before .before .before .before .before .before .before .before .pre .1 .sub-is) (c .before .before .before .before .before .before .before .before .before .before .before .before .before .before .subtree-at .ensures .0) (c .before .before .before .before .before .before .before .before .before .subtree-at2 .ensures .0) (c .before .before .before .before .before .before .before .before .before .before .before .before .list-left .ensures) (listed-one (c .before .before .before .before .before .before .before .list-children .ensures)) _ (c .before .before .before .before .if1 .left) _ (tells-string-fact (c .before .before .before .string-fact-at .ensures)) (c .before .before .if2 .left) (tells-flagged (c .before .flagged-at .ensures)) (c .before .before .before .before .before .before .before .before .before .before .before .before .before .before .before .before .before .pre .1 .given))
 
 list-addition-same-length-3 : (t : ℕ) → list-addition-lts.Need-same-length-3 (list-addition-calls t) (list-addition-at t) list-addition.Post
 list-addition-same-length-3 t c = search needs
 
 list-addition-returns-3 : (t : ℕ) → list-addition-lts.Need-returns-3 (list-addition-calls t) (list-addition-at t) list-addition.Post
-list-addition-returns-3 t c = sum-done _ _ _ _ (c .before .before .before .before .before .before .before .before .before .before .before .before .before .before .before .before .before .before .before .before .pre .1 .kind-is) (c .before .before .before .before .before .before .before .before .before .before .before .before .before .before .before .before .before .before .before .before .pre .1 .sub-is) (c .before .before .before .before .before .before .before .before .before .before .before .before .before .before .before .before .before .subtree-at .ensures .0) (c .before .before .before .before .before .before .before .before .before .before .before .before .subtree-at2 .ensures .0) (c .before .before .before .before .before .before .before .before .before .before .before .before .before .before .before .list-left .ensures) (listed-one (c .before .before .before .before .before .before .before .before .before .before .list-children .ensures)) _ (c .before .before .before .before .before .before .before .if1 .left) _ (c .before .before .before .before .before .before .string-fact-at .ensures) (c .before .before .before .before .before .if2 .left) (c .before .before .before .before .flagged-at .ensures) (c .before .before .list-if3 .ensures)
+list-addition-returns-3 t c = sum-done _ _ _ _ (c .before .before .before .before .before .before .before .before .before .before .before .before .before .before .before .before .before .before .before .before .pre .1 .kind-is) (c .before .before .before .before .before .before .before .before .before .before .before .before .before .before .before .before .before .before .before .before .pre .1 .sub-is) (c .before .before .before .before .before .before .before .before .before .before .before .before .before .before .before .before .before .subtree-at .ensures .0) (c .before .before .before .before .before .before .before .before .before .before .before .before .subtree-at2 .ensures .0) (c .before .before .before .before .before .before .before .before .before .before .before .before .before .before .before .list-left .ensures) (listed-one (c .before .before .before .before .before .before .before .before .before .before .list-children .ensures)) _ (c .before .before .before .before .before .before .before .if1 .left) _ (tells-string-fact (c .before .before .before .before .before .before .string-fact-at .ensures)) (c .before .before .before .before .before .if2 .left) (tells-flagged (c .before .before .before .before .flagged-at .ensures)) (c .before .before .list-if3 .ensures)
 
 abbrev list-children-Inv-loop : list-children-lts.InvT-loop
 list-children-Inv-loop src at size depth settings out₀ pos end p₀ next₀ out p next = Walking src at size depth (settingsWith settings) InOrder out₀ pos p end out next
@@ -437,7 +438,7 @@ list-left-is-addition-requires : (t : ℕ) → list-left-lts.Need-is-addition-re
 list-left-is-addition-requires t c κs = given-inside (c .before .before .pre .1)
 
 list-left-list-addition-requires : (t : ℕ) → list-left-lts.Need-list-addition-requires (list-left-calls t) (list-left-at t) list-left.Post
-list-left-list-addition-requires t c κs = (omega (arith, c .before .before .before .before .before .pre .0), sum-told _ (c .before .before .is-addition .ensures) (c .before .if1 .taken) (c .before .before .before .before .before .pre .1))
+list-left-list-addition-requires t c κs = (omega (arith, c .before .before .before .before .before .pre .0), sum-told _ (tells-addition (c .before .before .is-addition .ensures)) (c .before .if1 .taken) (c .before .before .before .before .before .pre .1))
 
 list-left-same-length : (t : ℕ) → list-left-lts.Need-same-length (list-left-calls t) (list-left-at t) list-left.Post
 list-left-same-length t c = search needs
@@ -455,7 +456,7 @@ list-left-same-length-2 : (t : ℕ) → list-left-lts.Need-same-length-2 (list-l
 list-left-same-length-2 t c = search needs
 
 list-left-returns-2 : (t : ℕ) → list-left-lts.Need-returns-2 (list-left-calls t) (list-left-at t) list-left.Post
-list-left-returns-2 t c = side-other _ _ (c .before .before .before .before .before .before .is-addition .ensures) (c .before .before .before .before .before .if1 .left) (c .string-fact-at .ensures) (listed-one (c .before .before .before .list-children .ensures))
+list-left-returns-2 t c = side-other _ _ (tells-addition (c .before .before .before .before .before .before .is-addition .ensures)) (c .before .before .before .before .before .if1 .left) (tells-string-fact (c .string-fact-at .ensures)) (listed-one (c .before .before .before .list-children .ensures))
 
 list-part-enum-told : (t : ℕ) → list-part-lts.Need-enum-told (list-part-calls t) (list-part-at t) list-part.Post
 list-part-enum-told t c = search needs
@@ -467,7 +468,7 @@ list-part-possible-symbol-at-requires : (t : ℕ) → list-part-lts.Need-possibl
 list-part-possible-symbol-at-requires t c κs = given-inside (c .before .before .before .before .before .before .before .before .pre .1)
 
 list-part-list-if-requires : (t : ℕ) → list-part-lts.Need-list-if-requires (list-part-calls t) (list-part-at t) list-part.Post
-list-part-list-if-requires t c κs = rw (c .before .before .before .before .list-children .kept .1 .1 .1 .1 .1 .0) (coerced-entry (as-part Coerced (c .before .before .before .before .before .before .enum-told .given .1) (c .before .before .before .before .before .before .before .before .before .before .pre .1)) (listed-one (c .before .before .before .before .list-children .ensures)) _ (c .before .possible-symbol-at .ensures))
+list-part-list-if-requires t c κs = rw (c .before .before .before .before .list-children .kept .1 .1 .1 .1 .1 .0) (coerced-entry (as-part Coerced (c .before .before .before .before .before .before .enum-told .given .1) (c .before .before .before .before .before .before .before .before .before .before .pre .1)) (listed-one (c .before .before .before .before .list-children .ensures)) _ (tells-possible-symbol (c .before .possible-symbol-at .ensures)))
 
 list-part-enum-told-2 : (t : ℕ) → list-part-lts.Need-enum-told-2 (list-part-calls t) (list-part-at t) list-part.Post
 list-part-enum-told-2 t c = search needs
@@ -497,7 +498,7 @@ list-part-same-length : (t : ℕ) → list-part-lts.Need-same-length (list-part-
 list-part-same-length t c = search needs
 
 list-part-returns : (t : ℕ) → list-part-lts.Need-returns (list-part-calls t) (list-part-at t) list-part.Post
-list-part-returns t c = for-part _ (c .before .before .before .before .before .before .before .before .before .enum-told .given .1) (coerced-done (listed-one (c .before .before .before .before .before .before .before .list-children .ensures)) (c .before .before .before .before .possible-symbol-at .ensures) (c .before .before .list-if .ensures))
+list-part-returns t c = for-part _ (c .before .before .before .before .before .before .before .before .before .enum-told .given .1) (coerced-done (listed-one (c .before .before .before .before .before .before .before .list-children .ensures)) (tells-possible-symbol (c .before .before .before .before .possible-symbol-at .ensures)) (c .before .before .list-if .ensures))
 
 list-part-same-length-2 : (t : ℕ) → list-part-lts.Need-same-length-2 (list-part-calls t) (list-part-at t) list-part.Post
 list-part-same-length-2 t c = search needs
@@ -572,25 +573,25 @@ list-static-sub-below : (t : ℕ) → list-static-lts.Need-sub-below (list-stati
 list-static-sub-below t c = omega (arith, some-depth ((c .before .before .before .before .before .before .before .pre .1) .input))
 
 list-static-list-children-requires : (t : ℕ) → list-static-lts.Need-list-children-requires (list-static-calls t) (list-static-at t) list-static.Post
-list-static-list-children-requires t c κs = (omega (arith, c .before .before .before .before .before .before .before .before .pre .0, c .before .before .before .before .before .before .before .before .pre .1 .input .small, some-depth ((c .before .before .before .before .before .before .before .before .pre .1) .input)), value-given _ _ (c .before .before .sub-at .ensures .0) refl _ (c .before .first-size .ensures) _ _ (c .before .before .before .before .has-static-value-at .ensures) (c .before .before .before .if1 .taken) (c .before .before .before .before .before .before .before .before .pre .1))
+list-static-list-children-requires t c κs = (omega (arith, c .before .before .before .before .before .before .before .before .pre .0, c .before .before .before .before .before .before .before .before .pre .1 .input .small, some-depth ((c .before .before .before .before .before .before .before .before .pre .1) .input)), value-given _ _ (c .before .before .sub-at .ensures .0) refl _ (c .before .first-size .ensures) _ _ (tells-static-value (c .before .before .before .before .has-static-value-at .ensures)) (c .before .before .before .if1 .taken) (c .before .before .before .before .before .before .before .before .pre .1))
 
 list-static-list-if-requires : (t : ℕ) → list-static-lts.Need-list-if-requires (list-static-calls t) (list-static-at t) list-static.Post
-list-static-list-if-requires t c κs = rw (c .before .before .before .list-children .kept .1 .1 .1 .1 .1 .0) (block-given _ _ (c .before .before .before .before .before .before .sub-at .ensures .0) refl _ (c .before .before .before .before .before .first-size .ensures) _ _ (c .before .before .before .before .before .before .before .before .has-static-value-at .ensures) (c .before .before .before .before .before .before .before .if1 .taken) (c .before .before .before .list-children .ensures) _ (c .before .before .before .before .before .before .before .before .before .nonempty-static-block-at .ensures) (c .before .before .before .before .before .before .before .before .before .before .before .before .pre .1))
+list-static-list-if-requires t c κs = rw (c .before .before .before .list-children .kept .1 .1 .1 .1 .1 .0) (block-given _ _ (c .before .before .before .before .before .before .sub-at .ensures .0) refl _ (c .before .before .before .before .before .first-size .ensures) _ _ (tells-static-value (c .before .before .before .before .before .before .before .before .has-static-value-at .ensures)) (c .before .before .before .before .before .before .before .if1 .taken) (c .before .before .before .list-children .ensures) _ (tells-static-block (c .before .before .before .before .before .before .before .before .before .nonempty-static-block-at .ensures)) (c .before .before .before .before .before .before .before .before .before .before .before .before .pre .1))
 
 list-static-same-length : (t : ℕ) → list-static-lts.Need-same-length (list-static-calls t) (list-static-at t) list-static.Post
 list-static-same-length t c = search needs
 
 list-static-returns : (t : ℕ) → list-static-lts.Need-returns (list-static-calls t) (list-static-at t) list-static.Post
-list-static-returns t c = static-done _ _ (c .before .before .before .before .before .before .before .before .before .sub-at .ensures .0) refl _ (c .before .before .before .before .before .before .before .before .first-size .ensures) _ _ (c .before .before .before .before .before .before .before .before .before .before .before .has-static-value-at .ensures) (c .before .before .before .before .before .before .before .before .before .before .if1 .taken) (c .before .before .before .before .before .before .list-children .ensures) _ (c .before .before .before .before .before .before .before .before .before .before .before .before .nonempty-static-block-at .ensures) (c .before .before .list-if .ensures)
+list-static-returns t c = static-done _ _ (c .before .before .before .before .before .before .before .before .before .sub-at .ensures .0) refl _ (c .before .before .before .before .before .before .before .before .first-size .ensures) _ _ (tells-static-value (c .before .before .before .before .before .before .before .before .before .before .before .has-static-value-at .ensures)) (c .before .before .before .before .before .before .before .before .before .before .if1 .taken) (c .before .before .before .before .before .before .list-children .ensures) _ (tells-static-block (c .before .before .before .before .before .before .before .before .before .before .before .before .nonempty-static-block-at .ensures)) (c .before .before .list-if .ensures)
 
 list-static-list-if-requires-2 : (t : ℕ) → list-static-lts.Need-list-if-requires-2 (list-static-calls t) (list-static-at t) list-static.Post
-list-static-list-if-requires-2 t c κs = only-block-given _ _ (c .before .before .has-static-value-at .ensures) (c .before .if1 .left) _ (c .before .before .before .nonempty-static-block-at .ensures) (c .before .before .before .before .before .before .pre .1)
+list-static-list-if-requires-2 t c κs = only-block-given _ _ (tells-static-value (c .before .before .has-static-value-at .ensures)) (c .before .if1 .left) _ (tells-static-block (c .before .before .before .nonempty-static-block-at .ensures)) (c .before .before .before .before .before .before .pre .1)
 
 list-static-same-length-2 : (t : ℕ) → list-static-lts.Need-same-length-2 (list-static-calls t) (list-static-at t) list-static.Post
 list-static-same-length-2 t c = search needs
 
 list-static-returns-2 : (t : ℕ) → list-static-lts.Need-returns-2 (list-static-calls t) (list-static-at t) list-static.Post
-list-static-returns-2 t c = only-block-done _ _ (c .before .before .before .before .before .has-static-value-at .ensures) (c .before .before .before .before .if1 .left) _ (c .before .before .before .before .before .before .nonempty-static-block-at .ensures) (c .before .before .list-if2 .ensures)
+list-static-returns-2 t c = only-block-done _ _ (tells-static-value (c .before .before .before .before .before .has-static-value-at .ensures)) (c .before .before .before .before .if1 .left) _ (tells-static-block (c .before .before .before .before .before .before .nonempty-static-block-at .ensures)) (c .before .before .list-if2 .ensures)
 
 pub +list-addition+list-children+list-class+list-expr+list-left+list-part+list-parts+list-static-spec :
     {M : Type 1} → statement M

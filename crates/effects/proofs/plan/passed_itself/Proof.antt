@@ -9,6 +9,7 @@ use Rattle.readings.specs.Node.{settingsWith}
 use Rattle.effects.specs.Plan.{derived-is}
 use Rattle.effects.specs.Passed.{isPassed, passed-small, own-is, passes-is}
 use borrow.Author.Needs.{needs}
+use Rattle.readings.specs.Own.{tells-flagged}
 use Rattle.effects.proofs.plan.passed_itself.Statement.{statement}
 use Rattle.effects.proofs.plan.passed_itself.Tie as tie
 
@@ -30,7 +31,7 @@ returns c = record {
       let k = c .before .kind-at .ensures .0 in
       let p = ap isPassed k ∙ c .before .before .before .before .before .before .pre .1 in
       rw (own-is (flagged t) (derived (settingsWith (c .before .before .before .before .before .before .args .settings))) (c .before .before .before .if1 .flagged) (c .before .before .if2 .kinds)
-      (⊎-elim (λ x. inl (sym (c .before .before .before .before .flagged-at .ensures .by t n) ∙ x .0 .taken, x .1)) (λ x. inr (sym (c .before .before .before .before .flagged-at .ensures .by t n) ∙ x .0 .left, x .1)) (c .before .before .before .if1 .came))
+      (⊎-elim (λ x. inl (sym (tells-flagged (c .before .before .before .before .flagged-at .ensures) .by t n) ∙ x .0 .taken, x .1)) (λ x. inr (sym (tells-flagged (c .before .before .before .before .flagged-at .ensures) .by t n) ∙ x .0 .left, x .1)) (c .before .before .before .if1 .came))
       (⊎-elim (λ x. inl (sym (derived-is (c .before .before .before .before .before .before .args .settings)) ∙ eq-eqb _ _ (x .0 .taken), x .2)) (λ x. inr (sym (derived-is (c .before .before .before .before .before .before .args .settings)) ∙ ne-eqb _ _ (x .0 .left), x .1)) (c .before .before .if2 .came))
       (c .before .kind-at .result) (passed-small (c .before .kind-at .result) p))
       (passes-is (settingsWith (c .before .before .before .before .before .before .args .settings)) t w _ (k ∙ ap (λ (h : Head). h .kind) (n .stands .0)) p);

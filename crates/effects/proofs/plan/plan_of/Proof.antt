@@ -3,6 +3,7 @@ use Rattle.tree.specs.Tree.{Head}
 use Rattle.effects.specs.Plan.{plan-spread, plan-template, plan-call, plan-impure-call, plan-new, plan-impure-new, plan-class, plan-other}
 use Rattle.effects.specs.Passed.{isPassed, inner-leaf, inner-other}
 use borrow.Author.Needs.{needs}
+use Rattle.readings.specs.Own.{tells-flagged}
 use Rattle.effects.proofs.plan.plan_of.Statement.{statement}
 use Rattle.effects.proofs.plan.plan_of.Tie as tie
 
@@ -37,7 +38,7 @@ flagged-at-requires-3 : tie.Need-flagged-at-requires-3
 flagged-at-requires-3 c κs = search needs
 
 returns-3 : tie.Need-returns-3
-returns-3 c = record { by = λ t n w. plan-spread _ t _ (c .before .before .kind-at .ensures .0 ∙ ap (λ (h : Head). h .kind) (n .stands .0)) (c .before .match .keys1) (c .flagged-at .ensures .by t n) }
+returns-3 c = record { by = λ t n w. plan-spread _ t _ (c .before .before .kind-at .ensures .0 ∙ ap (λ (h : Head). h .kind) (n .stands .0)) (c .before .match .keys1) (tells-flagged (c .flagged-at .ensures) .by t n) }
 
 returns-4 : tie.Need-returns-4
 returns-4 c = record { by = λ t n w. plan-template _ t _ (c .before .kind-at .ensures .0 ∙ ap (λ (h : Head). h .kind) (n .stands .0)) (c .match .keys2) }
@@ -49,10 +50,10 @@ returns-6 : tie.Need-returns-6
 returns-6 c = record { by = λ t n w. c .plan-binary .ensures .by t n w (sym (c .before .before .kind-at .ensures .0 ∙ ap (λ (h : Head). h .kind) (n .stands .0)) ∙ c .before .match .keys4) }
 
 returns-7 : tie.Need-returns-7
-returns-7 c = record { by = λ t n w. plan-impure-call _ t _ (c .before .before .before .before .kind-at .ensures .0 ∙ ap (λ (h : Head). h .kind) (n .stands .0)) (c .before .before .before .match .keys5) (sym (c .before .before .pure-call .ensures .by t n) ∙ c .before .if1 .left) (c .flagged-at2 .ensures .by t n) }
+returns-7 c = record { by = λ t n w. plan-impure-call _ t _ (c .before .before .before .before .kind-at .ensures .0 ∙ ap (λ (h : Head). h .kind) (n .stands .0)) (c .before .before .before .match .keys5) (sym (c .before .before .pure-call .ensures .by t n) ∙ c .before .if1 .left) (tells-flagged (c .flagged-at2 .ensures) .by t n) }
 
 returns-8 : tie.Need-returns-8
-returns-8 c = record { by = λ t n w. plan-impure-new _ t _ (c .before .before .before .before .kind-at .ensures .0 ∙ ap (λ (h : Head). h .kind) (n .stands .0)) (c .before .before .before .match .keys6) (sym (c .before .before .pure-new .ensures .by t n) ∙ c .before .if2 .left) (c .flagged-at3 .ensures .by t n) }
+returns-8 c = record { by = λ t n w. plan-impure-new _ t _ (c .before .before .before .before .kind-at .ensures .0 ∙ ap (λ (h : Head). h .kind) (n .stands .0)) (c .before .before .before .match .keys6) (sym (c .before .before .pure-new .ensures .by t n) ∙ c .before .if2 .left) (tells-flagged (c .flagged-at3 .ensures) .by t n) }
 
 returns-9 : tie.Need-returns-9
 returns-9 c = record { by = λ t n w. plan-class _ t _ (c .before .kind-at .ensures .0 ∙ ap (λ (h : Head). h .kind) (n .stands .0)) (c .match .keys7) }

@@ -2,6 +2,7 @@ use mathlib.Core.Path.{refl, sym, ap, _∙_}
 use Rattle.tree.specs.Tree.{Head}
 use Rattle.effects.specs.Plan.{plan-void, plan-not, plan-typeof-identifier, plan-typeof, plan-other-unary}
 use borrow.Author.Needs.{needs}
+use Rattle.readings.specs.Own.{tells-flagged}
 use Rattle.effects.proofs.plan.plan_unary.Statement.{statement}
 use Rattle.effects.proofs.plan.plan_unary.Tie as tie
 
@@ -27,7 +28,7 @@ flagged-at-requires : tie.Need-flagged-at-requires
 flagged-at-requires c κs = search needs
 
 returns-5 : tie.Need-returns-5
-returns-5 c = record { by = λ t n w e. plan-other-unary _ t _ (sym e) refl _ (c .before .before .before .before .sub-at .ensures .0 ∙ ap (λ (h : Head). h .sub) (n .stands .0)) (c .before .before .before .if1 .left) (c .before .before .if2 .left) (c .before .if3 .left) (c .flagged-at .ensures .by t n) }
+returns-5 c = record { by = λ t n w e. plan-other-unary _ t _ (sym e) refl _ (c .before .before .before .before .sub-at .ensures .0 ∙ ap (λ (h : Head). h .sub) (n .stands .0)) (c .before .before .before .if1 .left) (c .before .before .if2 .left) (c .before .if3 .left) (tells-flagged (c .flagged-at .ensures) .by t n) }
 
 pub plan-unary-spec : {M : Type 1} → statement M
 plan-unary-spec =

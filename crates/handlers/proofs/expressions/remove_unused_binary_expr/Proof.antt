@@ -10,6 +10,7 @@ use Rattle.handlers.specs.declared.outcome.Outcome.the-variants.{Removab
 use Rattle.handlers.specs.declared.outcome.Rewrite.the-variants.{Comparison}
 use Rattle.handlers.specs.Choice.{staysIf, ofAddition, always, stays, where-true, where-false}
 use borrow.Author.Needs.{needs}
+use Rattle.readings.specs.Own.{tells-flagged}
 use Rattle.handlers.proofs.expressions.remove_unused_binary_expr.Statement.{statement}
 use Rattle.handlers.proofs.expressions.remove_unused_binary_expr.Tie as tie
 
@@ -29,10 +30,10 @@ flagged-at-requires : tie.Need-flagged-at-requires
 flagged-at-requires c κs = search needs
 
 returns-2 : tie.Need-returns-2
-returns-2 c = where-false (tells-sub (λ (x : ℕ). eqb x 1) (c .before .before .before .before .sub-at .ensures .0)) (λ (t : Tree). Rewritten Comparison) addition-or (ne-eqb _ 1 (c .before .before .before .if1 .left)) (where-true (tells-sub (λ (x : ℕ). eqb x 2) (c .before .before .before .before .sub-at .ensures .0)) ofAddition flagged-stays (eq-eqb _ 2 (c .before .before .if2 .taken)) (where-true (c .before .flagged-at .ensures) (λ (t : Tree). Addition) (λ (t : Tree). Removable) (c .if3 .taken) (always Addition)))
+returns-2 c = where-false (tells-sub (λ (x : ℕ). eqb x 1) (c .before .before .before .before .sub-at .ensures .0)) (λ (t : Tree). Rewritten Comparison) addition-or (ne-eqb _ 1 (c .before .before .before .if1 .left)) (where-true (tells-sub (λ (x : ℕ). eqb x 2) (c .before .before .before .before .sub-at .ensures .0)) ofAddition flagged-stays (eq-eqb _ 2 (c .before .before .if2 .taken)) (where-true (tells-flagged (c .before .flagged-at .ensures)) (λ (t : Tree). Addition) (λ (t : Tree). Removable) (c .if3 .taken) (always Addition)))
 
 returns-3 : tie.Need-returns-3
-returns-3 c = where-false (tells-sub (λ (x : ℕ). eqb x 1) (c .before .before .before .before .sub-at .ensures .0)) (λ (t : Tree). Rewritten Comparison) addition-or (ne-eqb _ 1 (c .before .before .before .if1 .left)) (where-true (tells-sub (λ (x : ℕ). eqb x 2) (c .before .before .before .before .sub-at .ensures .0)) ofAddition flagged-stays (eq-eqb _ 2 (c .before .before .if2 .taken)) (where-false (c .before .flagged-at .ensures) (λ (t : Tree). Addition) (λ (t : Tree). Removable) (c .if3 .left) (always Removable)))
+returns-3 c = where-false (tells-sub (λ (x : ℕ). eqb x 1) (c .before .before .before .before .sub-at .ensures .0)) (λ (t : Tree). Rewritten Comparison) addition-or (ne-eqb _ 1 (c .before .before .before .if1 .left)) (where-true (tells-sub (λ (x : ℕ). eqb x 2) (c .before .before .before .before .sub-at .ensures .0)) ofAddition flagged-stays (eq-eqb _ 2 (c .before .before .if2 .taken)) (where-false (tells-flagged (c .before .flagged-at .ensures)) (λ (t : Tree). Addition) (λ (t : Tree). Removable) (c .if3 .left) (always Removable)))
 
 flagged-at-requires-2 : tie.Need-flagged-at-requires-2
 flagged-at-requires-2 c κs = search needs
@@ -41,7 +42,7 @@ stays-if-requires : tie.Need-stays-if-requires
 stays-if-requires c κs = search needs
 
 returns-4 : tie.Need-returns-4
-returns-4 c = where-false (tells-sub (λ (x : ℕ). eqb x 1) (c .before .before .before .before .sub-at .ensures .0)) (λ (t : Tree). Rewritten Comparison) addition-or (ne-eqb _ 1 (c .before .before .before .if1 .left)) (where-false (tells-sub (λ (x : ℕ). eqb x 2) (c .before .before .before .before .sub-at .ensures .0)) ofAddition flagged-stays (ne-eqb _ 2 (c .before .before .if2 .left)) (stays (c .stays-if .ensures) (c .before .flagged-at2 .ensures)))
+returns-4 c = where-false (tells-sub (λ (x : ℕ). eqb x 1) (c .before .before .before .before .sub-at .ensures .0)) (λ (t : Tree). Rewritten Comparison) addition-or (ne-eqb _ 1 (c .before .before .before .if1 .left)) (where-false (tells-sub (λ (x : ℕ). eqb x 2) (c .before .before .before .before .sub-at .ensures .0)) ofAddition flagged-stays (ne-eqb _ 2 (c .before .before .if2 .left)) (stays (c .stays-if .ensures) (tells-flagged (c .before .flagged-at2 .ensures))))
 
 pub remove-unused-binary-expr-spec : {M : Type 1} → statement M
 remove-unused-binary-expr-spec =

@@ -9,6 +9,7 @@ use Rattle.handlers.specs.declared.outcome.Outcome.{Outcome}
 use Rattle.handlers.specs.declared.outcome.Outcome.the-variants.{Removable, Unwrapped}
 use Rattle.handlers.specs.Choice.{staysIf, ofTypeof, always, stays, where-true, where-false}
 use borrow.Author.Needs.{needs}
+use Rattle.readings.specs.Own.{tells-flagged}
 use Rattle.handlers.proofs.expressions.remove_unused_unary_expr.Statement.{statement}
 use Rattle.handlers.proofs.expressions.remove_unused_unary_expr.Tie as tie
 
@@ -46,7 +47,7 @@ stays-if-requires : tie.Need-stays-if-requires
 stays-if-requires c κs = search needs
 
 returns-5 : tie.Need-returns-5
-returns-5 c = where-false (tells-sub (λ (x : ℕ). eqb x 1) (c .before .before .before .before .before .sub-at .ensures .0)) (λ (t : Tree). Unwrapped) not-or (ne-eqb _ 1 (c .before .before .before .before .if1 .left)) (where-false (tells-sub (λ (x : ℕ). eqb x 2) (c .before .before .before .before .before .sub-at .ensures .0)) (λ (t : Tree). Unwrapped) typeof-or (ne-eqb _ 2 (c .before .before .before .if2 .left)) (where-false (tells-sub (λ (x : ℕ). eqb x 3) (c .before .before .before .before .before .sub-at .ensures .0)) ofTypeof flagged-stays (ne-eqb _ 3 (c .before .before .if3 .left)) (stays (c .stays-if .ensures) (c .before .flagged-at .ensures))))
+returns-5 c = where-false (tells-sub (λ (x : ℕ). eqb x 1) (c .before .before .before .before .before .sub-at .ensures .0)) (λ (t : Tree). Unwrapped) not-or (ne-eqb _ 1 (c .before .before .before .before .if1 .left)) (where-false (tells-sub (λ (x : ℕ). eqb x 2) (c .before .before .before .before .before .sub-at .ensures .0)) (λ (t : Tree). Unwrapped) typeof-or (ne-eqb _ 2 (c .before .before .before .if2 .left)) (where-false (tells-sub (λ (x : ℕ). eqb x 3) (c .before .before .before .before .before .sub-at .ensures .0)) ofTypeof flagged-stays (ne-eqb _ 3 (c .before .before .if3 .left)) (stays (c .stays-if .ensures) (tells-flagged (c .before .flagged-at .ensures)))))
 
 pub remove-unused-unary-expr-spec : {M : Type 1} → statement M
 remove-unused-unary-expr-spec =

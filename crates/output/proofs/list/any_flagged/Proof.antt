@@ -2,6 +2,7 @@ use Prim.Native.Nat.{_-_}
 use native.Mathlib.Omega.{arith}
 use Rattle.rules.specs.Facts.{flagged}
 use Rattle.output.specs.Lists.{Searching, search-start, search-done, search-found, search-on, spanned-inside, spanned-some, spanned-within}
+use Rattle.readings.specs.Own.{tells-flagged}
 use Rattle.output.proofs.list.any_flagged.Statement.{statement}
 use Rattle.output.proofs.list.any_flagged.Tie as tie
 
@@ -18,7 +19,7 @@ flagged-at-requires : tie.Need-flagged-at-requires Inv-loop μ-loop
 flagged-at-requires c κs = spanned-inside (c .before .loop .inv .rest) (c .loop-test .taken)
 
 returns : tie.Need-returns Inv-loop μ-loop
-returns c = search-found (c .before .before .before .loop .inv) (c .before .before .loop-test .taken) _ (c .before .flagged-at .ensures) (c .if1 .taken)
+returns c = search-found (c .before .before .before .loop .inv) (c .before .before .loop-test .taken) _ (tells-flagged (c .before .flagged-at .ensures)) (c .if1 .taken)
 
 subtree-at-requires : tie.Need-subtree-at-requires Inv-loop μ-loop
 subtree-at-requires c κs = spanned-inside (c .before .before .before .loop .inv .rest) (c .before .before .loop-test .taken)
@@ -30,7 +31,7 @@ loop-less : tie.Need-loop-less Inv-loop μ-loop
 loop-less c = omega (arith, c .subtree-at .ensures .0, spanned-some (c .before .before .before .before .loop .inv .rest) (c .before .before .before .loop-test .taken))
 
 loop-again : tie.Need-loop-again Inv-loop μ-loop
-loop-again c = search-on (c .before .before .before .before .loop .inv) (c .before .before .before .loop-test .taken) _ (c .before .before .flagged-at .ensures) (c .before .if1 .left) _ (c .subtree-at .ensures .0)
+loop-again c = search-on (c .before .before .before .before .loop .inv) (c .before .before .before .loop-test .taken) _ (tells-flagged (c .before .before .flagged-at .ensures)) (c .before .if1 .left) _ (c .subtree-at .ensures .0)
 
 returns-2 : tie.Need-returns-2 Inv-loop μ-loop
 returns-2 c = search-done (c .before .loop .inv) (c .loop-test .left)

@@ -1,7 +1,7 @@
+use mathlib.Core.Path.{ap}
 use borrow.Author.Needs.{needs}
 use Rattle.tree.specs.Record.{bitSet}
 use Rattle.rules.specs.Class.{decoratedElement}
-use Rattle.readings.specs.Steps.{tells-sub}
 use Rattle.readings.proofs.class.decorated_element_at.Statement.{statement}
 use Rattle.readings.proofs.class.decorated_element_at.Tie as tie
 
@@ -10,7 +10,7 @@ sub-at-requires c κs = search needs
 
 returns : tie.Need-returns
 unfolding decoratedElement
-returns c = tells-sub (bitSet 5) (c .sub-at .ensures .0)
+returns c = ap (bitSet 5) (c .sub-at .ensures .0)
 
 pub decorated-element-at-spec : {M : Type 1} → statement M
 decorated-element-at-spec =

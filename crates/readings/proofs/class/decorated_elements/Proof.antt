@@ -4,6 +4,7 @@ use Rattle.rules.specs.Lists.{any}
 use Rattle.rules.specs.Class.{decoratedElement, elements}
 use Rattle.tree.specs.Walk.{held-some, held-within}
 use Rattle.readings.specs.Walk.{some-inside, some-end, AnyWalked, any-done, any-found, any-on, list-start}
+use Rattle.readings.specs.Own.{tells-decorated-element}
 use Rattle.readings.proofs.class.decorated_elements.Statement.{statement}
 use Rattle.readings.proofs.class.decorated_elements.Tie as tie
 
@@ -29,7 +30,7 @@ decorated-element-at-requires : tie.Need-decorated-element-at-requires Inv-loop 
 decorated-element-at-requires c κs = omega (arith, c .before .loop .inv .held .inside)
 
 returns : tie.Need-returns Inv-loop μ-loop
-returns c = any-found (c .before .before .before .loop .inv) (c .before .before .loop-test .taken) _ (c .before .decorated-element-at .ensures) (c .if1 .taken)
+returns c = any-found (c .before .before .before .loop .inv) (c .before .before .loop-test .taken) _ (tells-decorated-element (c .before .decorated-element-at .ensures)) (c .if1 .taken)
 
 subtree-at-requires-2 : tie.Need-subtree-at-requires-2 Inv-loop μ-loop
 subtree-at-requires-2 c κs = omega (arith, c .before .before .before .loop .inv .held .inside)
@@ -41,7 +42,7 @@ loop-less : tie.Need-loop-less Inv-loop μ-loop
 loop-less c = omega (arith, c .subtree-at2 .ensures .0, held-some (c .before .before .before .before .loop .inv .held) (omega arith))
 
 loop-again : tie.Need-loop-again Inv-loop μ-loop
-loop-again c = any-on (c .before .before .before .before .loop .inv) (c .before .before .before .loop-test .taken) _ (c .before .before .decorated-element-at .ensures) (c .before .if1 .left) _ (c .subtree-at2 .ensures .0)
+loop-again c = any-on (c .before .before .before .before .loop .inv) (c .before .before .before .loop-test .taken) _ (tells-decorated-element (c .before .before .decorated-element-at .ensures)) (c .before .if1 .left) _ (c .subtree-at2 .ensures .0)
 
 returns-2 : tie.Need-returns-2 Inv-loop μ-loop
 returns-2 c = any-done (c .before .loop .inv) (c .loop-test .left)

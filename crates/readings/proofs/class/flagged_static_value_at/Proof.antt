@@ -1,5 +1,6 @@
 use Rattle.readings.specs.Class.{static-flagged, static-none}
 use borrow.Author.Needs.{needs}
+use Rattle.readings.specs.Own.{tells-static-value}
 use Rattle.readings.proofs.class.flagged_static_value_at.Statement.{statement}
 use Rattle.readings.proofs.class.flagged_static_value_at.Tie as tie
 
@@ -13,10 +14,10 @@ flagged-after-requires : tie.Need-flagged-after-requires
 flagged-after-requires c κs = search needs
 
 returns : tie.Need-returns
-returns c = static-flagged (c .before .before .before .has-static-value-at .ensures) (c .before .before .if1 .taken) _ (c .before .sub-at .ensures .0) (c .flagged-after .ensures)
+returns c = static-flagged (tells-static-value (c .before .before .before .has-static-value-at .ensures)) (c .before .before .if1 .taken) _ (c .before .sub-at .ensures .0) (c .flagged-after .ensures)
 
 returns-2 : tie.Need-returns-2
-returns-2 c = static-none (c .before .has-static-value-at .ensures) (c .if1 .left)
+returns-2 c = static-none (tells-static-value (c .before .has-static-value-at .ensures)) (c .if1 .left)
 
 pub flagged-static-value-at-spec : {M : Type 1} → statement M
 flagged-static-value-at-spec =

@@ -1,7 +1,7 @@
+use mathlib.Core.Path.{ap}
 use Prim.Native.Nat.{ℕ, _%_}
 use lib.Dec.{eqb}
 use Rattle.rules.specs.Class.{indexSignature}
-use Rattle.readings.specs.Steps.{tells-sub}
 use borrow.Author.Needs.{needs}
 use Rattle.readings.proofs.class.index_signature_at.Statement.{statement}
 use Rattle.readings.proofs.class.index_signature_at.Tie as tie
@@ -11,7 +11,7 @@ sub-at-requires c κs = search needs
 
 returns : tie.Need-returns
 unfolding indexSignature
-returns c = tells-sub (λ (x : ℕ). eqb (x % 8) 5) (c .sub-at .ensures .0)
+returns c = ap (λ (x : ℕ). eqb (x % 8) 5) (c .sub-at .ensures .0)
 
 pub index-signature-at-spec : {M : Type 1} → statement M
 index-signature-at-spec = tie.close (tie.spec sub-at-requires returns)

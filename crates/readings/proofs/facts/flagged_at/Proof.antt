@@ -1,8 +1,8 @@
+use mathlib.Core.Path.{ap}
 use Prim.Native.Nat.{ℕ, _%_}
 use lib.Dec.{eqb}
 use borrow.Author.Needs.{needs}
 use Rattle.rules.specs.Facts.{flagged}
-use Rattle.readings.specs.Steps.{tells-facts}
 use Rattle.readings.proofs.facts.flagged_at.Statement.{statement}
 use Rattle.readings.proofs.facts.flagged_at.Tie as tie
 
@@ -11,7 +11,7 @@ facts-at-requires c κs = search needs
 
 returns : tie.Need-returns
 unfolding flagged
-returns c = tells-facts (λ (x : ℕ). eqb (x % 2) 1) (c .facts-at .ensures .0)
+returns c = ap (λ (x : ℕ). eqb (x % 2) 1) (c .facts-at .ensures .0)
 
 pub flagged-at-spec : {M : Type 1} → statement M
 flagged-at-spec =

@@ -1,9 +1,9 @@
+use mathlib.Core.Path.{ap}
 use mathlib.Core.Bool.{not}
 use Prim.Native.Nat.{ℕ, _/_, _%_}
 use lib.Dec.{eqb}
 use borrow.Author.Needs.{needs}
 use Rattle.rules.specs.Facts.{possibleSymbol}
-use Rattle.readings.specs.Steps.{tells-facts}
 use Rattle.readings.proofs.facts.possible_symbol_at.Statement.{statement}
 use Rattle.readings.proofs.facts.possible_symbol_at.Tie as tie
 
@@ -12,7 +12,7 @@ facts-at-requires c κs = search needs
 
 returns : tie.Need-returns
 unfolding possibleSymbol
-returns c = tells-facts (λ (x : ℕ). not (eqb (x / 2 % 4) 1)) (c .facts-at .ensures .0)
+returns c = ap (λ (x : ℕ). not (eqb (x / 2 % 4) 1)) (c .facts-at .ensures .0)
 
 pub possible-symbol-at-spec : {M : Type 1} → statement M
 possible-symbol-at-spec =

@@ -1,8 +1,8 @@
+use mathlib.Core.Path.{ap}
 use Prim.Native.Nat.{ℕ, _/_, _%_}
 use lib.Dec.{eqb}
 use borrow.Author.Needs.{needs}
 use Rattle.rules.specs.Facts.{stringFact}
-use Rattle.readings.specs.Steps.{tells-facts}
 use Rattle.readings.proofs.facts.string_fact_at.Statement.{statement}
 use Rattle.readings.proofs.facts.string_fact_at.Tie as tie
 
@@ -11,7 +11,7 @@ facts-at-requires c κs = search needs
 
 returns : tie.Need-returns
 unfolding stringFact
-returns c = tells-facts (λ (x : ℕ). eqb (x / 8 % 4) 2) (c .facts-at .ensures .0)
+returns c = ap (λ (x : ℕ). eqb (x / 8 % 4) 2) (c .facts-at .ensures .0)
 
 pub string-fact-at-spec : {M : Type 1} → statement M
 string-fact-at-spec =

@@ -6,6 +6,7 @@ use Rattle.tree.specs.Walk.{held-some, held-within}
 use Rattle.rules.specs.Lists.{any}
 use Rattle.rules.specs.Facts.{flagged}
 use Rattle.readings.specs.Walk.{some-inside, some-end, AnyWalked, any-done, any-found, any-on, list-start}
+use Rattle.readings.specs.Own.{tells-flagged}
 use Rattle.readings.proofs.lists.flagged_after.Statement.{statement}
 use Rattle.readings.proofs.lists.flagged_after.Tie as tie
 
@@ -31,7 +32,7 @@ flagged-at-requires : tie.Need-flagged-at-requires Inv-loop μ-loop
 flagged-at-requires c κs = omega (arith, c .before .loop .inv .held .inside)
 
 returns : tie.Need-returns Inv-loop μ-loop
-returns c = any-found (c .before .before .before .loop .inv) (c .before .before .loop-test .taken) _ (c .before .flagged-at .ensures) (c .if1 .taken)
+returns c = any-found (c .before .before .before .loop .inv) (c .before .before .loop-test .taken) _ (tells-flagged (c .before .flagged-at .ensures)) (c .if1 .taken)
 
 subtree-at-requires-2 : tie.Need-subtree-at-requires-2 Inv-loop μ-loop
 subtree-at-requires-2 c κs = omega (arith, c .before .before .before .loop .inv .held .inside)
@@ -43,7 +44,7 @@ loop-less : tie.Need-loop-less Inv-loop μ-loop
 loop-less c = omega (arith, c .subtree-at2 .ensures .0, held-some (c .before .before .before .before .loop .inv .held) (omega arith))
 
 loop-again : tie.Need-loop-again Inv-loop μ-loop
-loop-again c = any-on (c .before .before .before .before .loop .inv) (c .before .before .before .loop-test .taken) _ (c .before .before .flagged-at .ensures) (c .before .if1 .left) _ (c .subtree-at2 .ensures .0)
+loop-again c = any-on (c .before .before .before .before .loop .inv) (c .before .before .before .loop-test .taken) _ (tells-flagged (c .before .before .flagged-at .ensures)) (c .before .if1 .left) _ (c .subtree-at2 .ensures .0)
 
 returns-2 : tie.Need-returns-2 Inv-loop μ-loop
 returns-2 c = any-done (c .before .loop .inv) (c .loop-test .left)

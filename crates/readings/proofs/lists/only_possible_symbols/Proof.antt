@@ -8,6 +8,7 @@ use Rattle.readings.specs.Walk.{some-inside, some-end, AnyWalked, any-do
 use Rattle.readings.specs.Children.{tells-every}
 use Rattle.rules.specs.Facts.{possibleSymbol}
 use Rattle.readings.specs.Steps.{tells-not}
+use Rattle.readings.specs.Own.{tells-possible-symbol}
 use Rattle.readings.proofs.lists.only_possible_symbols.Statement.{statement}
 use Rattle.readings.proofs.lists.only_possible_symbols.Tie as tie
 
@@ -33,7 +34,7 @@ possible-symbol-at-requires : tie.Need-possible-symbol-at-requires Inv-loop μ-l
 possible-symbol-at-requires c κs = omega (arith, c .before .loop .inv .held .inside)
 
 returns : tie.Need-returns Inv-loop μ-loop
-returns c = tells-every possibleSymbol (any-found (c .before .before .before .loop .inv) (c .before .before .loop-test .taken) _ (tells-not (c .before .possible-symbol-at .ensures)) (c .if1 .taken))
+returns c = tells-every possibleSymbol (any-found (c .before .before .before .loop .inv) (c .before .before .loop-test .taken) _ (tells-not (tells-possible-symbol (c .before .possible-symbol-at .ensures))) (c .if1 .taken))
 
 subtree-at-requires-2 : tie.Need-subtree-at-requires-2 Inv-loop μ-loop
 subtree-at-requires-2 c κs = omega (arith, c .before .before .before .loop .inv .held .inside)
@@ -45,7 +46,7 @@ loop-less : tie.Need-loop-less Inv-loop μ-loop
 loop-less c = omega (arith, c .subtree-at2 .ensures .0, held-some (c .before .before .before .before .loop .inv .held) (omega arith))
 
 loop-again : tie.Need-loop-again Inv-loop μ-loop
-loop-again c = any-on (c .before .before .before .before .loop .inv) (c .before .before .before .loop-test .taken) _ (tells-not (c .before .before .possible-symbol-at .ensures)) (c .before .if1 .left) _ (c .subtree-at2 .ensures .0)
+loop-again c = any-on (c .before .before .before .before .loop .inv) (c .before .before .before .loop-test .taken) _ (tells-not (tells-possible-symbol (c .before .before .possible-symbol-at .ensures))) (c .before .if1 .left) _ (c .subtree-at2 .ensures .0)
 
 returns-2 : tie.Need-returns-2 Inv-loop μ-loop
 returns-2 c = tells-every possibleSymbol (any-done (c .before .loop .inv) (c .loop-test .left))

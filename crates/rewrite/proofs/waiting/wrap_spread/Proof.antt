@@ -2,6 +2,7 @@ use mathlib.Core.Path.{refl}
 use native.Mathlib.Omega.{arith}
 use Rattle.rewrite.specs.Waiting.{wrapped-gone, wrapped-kept}
 use borrow.Author.Needs.{needs}
+use Rattle.readings.specs.Own.{tells-flagged}
 use Rattle.rewrite.proofs.waiting.wrap_spread.Statement.{statement}
 use Rattle.rewrite.proofs.waiting.wrap_spread.Tie as tie
 
@@ -30,10 +31,10 @@ same-length : tie.Need-same-length
 same-length c = search needs
 
 returns : tie.Need-returns
-returns c = wrapped-kept (c .before .before .before .before .before .before .before .before .before .before .flagged-at .ensures) (c .before .before .before .before .before .before .before .before .before .if1 .taken) (c .before .before .before .before .before .before .before .copy-tree .ensures) (c .before .before .before .place-at .ensures) refl (c .before .before .make-at .ensures)
+returns c = wrapped-kept (tells-flagged (c .before .before .before .before .before .before .before .before .before .before .flagged-at .ensures)) (c .before .before .before .before .before .before .before .before .before .if1 .taken) (c .before .before .before .before .before .before .before .copy-tree .ensures) (c .before .before .before .place-at .ensures) refl (c .before .before .make-at .ensures)
 
 returns-2 : tie.Need-returns-2
-returns-2 c = wrapped-gone (c .before .flagged-at .ensures) (c .if1 .left)
+returns-2 c = wrapped-gone (tells-flagged (c .before .flagged-at .ensures)) (c .if1 .left)
 
 pub wrap-spread-spec : {M : Type 1} → statement M
 wrap-spread-spec =
