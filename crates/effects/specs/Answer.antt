@@ -5,8 +5,8 @@ use mathlib.Core.List.{List, [], _∷_, _++_}
 use Prim.Native.Nat.{ℕ, zero, suc, _*_, _≤_}
 use native.Mathlib.Omega.{arith}
 use lib.Dec.{ltb}
-use lib.ListN.{length, drop, length-append}
-use Rattle.stated.specs.Stated.{Stated, refused, answered, injective-by}
+use lib.ListN.{length, getD, drop, length-append}
+use Rattle.stated.specs.Stated.{Stated, injective-by}
 use Rattle.tree.specs.Fields.{settingsOf, countOf}
 use Rattle.tree.specs.Refusal.{listEffectsLimits, refusal, treeOf}
 use Rattle.rules.specs.Effects.{effects}
@@ -14,10 +14,20 @@ use Rattle.readings.specs.Node.{settingsWith}
 use Rattle.effects.specs.declared.Listed.{Listed}
 use Rattle.effects.specs.declared.Listed.the-variants.{Refused, Count}
 
--- A refusal states its number; a listing its count.
-abbrev pub stated : Listed → Stated
-stated (Refused n) = refused n
-stated (Count n) = answered (n ∷ [])
+pub data Case : Type 0 where
+  refused count : Case
+
+-- "refused: number, count 0"
+abbrev pub refusedBy : ℕ → Stated Case
+refusedBy n = record { case = Case.refused; number = n; values = 0 ∷ [] }
+
+-- "Returns the count"
+abbrev pub counts : ℕ → Stated Case
+counts n = record { case = Case.count; number = 0; values = n ∷ [] }
+
+abbrev pub stated : Listed → Stated Case
+stated (Refused n) = refusedBy n
+stated (Count n) = counts n
 
 -- "1–8 likewise, but count to 3,999 and depth to 65; 10 under 2 × N entries lent"
 abbrev pub numberBy : ℕ → Bool → ℕ
@@ -32,9 +42,9 @@ unfoldable pub effectList : List ℕ → List ℕ
 effectList s = effects (settingsWith (settingsOf s)) (treeOf s)
 
 -- "Returns the count, later entries untouched; refused: number, count 0, entries untouched."
-abbrev pub statedOf : ℕ → List ℕ → Stated
-statedOf zero l = answered (length l ∷ [])
-statedOf (suc k) l = refused (suc k)
+abbrev pub statedOf : ℕ → List ℕ → Stated Case
+statedOf zero l = counts (length l)
+statedOf (suc k) l = refusedBy (suc k)
 
 abbrev pub entriesOf : ℕ → List ℕ → List ℕ → List ℕ
 entriesOf zero l old = l ++ drop (length l) old
@@ -45,12 +55,12 @@ pub record Answers (s old new : List ℕ) (r : Listed) : Type 0 where
   pub entries : new ≡ entriesOf (number s (length old)) (effectList s) old
 
 -- An answer is determined by what it states, since it can be read back.
-listedOf : Stated → Listed
-listedOf s = from (s .number) (s .values)
+listedOf : Stated Case → Listed
+listedOf s = from (s .case) (s .number) (s .values)
   where
-    from : ℕ → List ℕ → Listed
-    from n [] = Refused n
-    from n (v ∷ vs) = Count v
+    from : Case → ℕ → List ℕ → Listed
+    from Case.refused n vs = Refused n
+    from Case.count n vs = Count (getD vs 0 0)
 
 pub stated-injective : (a b : Listed) → stated a ≡ stated b → a ≡ b
 unfolding listedOf
@@ -62,14 +72,10 @@ stated-injective = injective-by stated listedOf read
 
 -- The effects that are counted stand in the entries.
 pub count-within : {s old new : List ℕ} {r : Listed} {n : ℕ} → Answers s old new r → r ≡ Count n → n ≤ length new
-count-within {s} {old} {new} {r} {n} a counts = rw (a .entries) (go (number s (length old)) (effectList s) (ap stated (sym counts) ∙ a .answer))
+count-within {s} {old} {new} {r} {n} a is-count = rw (a .entries) (go (number s (length old)) (effectList s) (ap stated (sym is-count) ∙ a .answer))
   where
-    go : (k : ℕ) (l : List ℕ) → answered (n ∷ []) ≡ statedOf k l → n ≤ length (entriesOf k l old)
+    go : (k : ℕ) (l : List ℕ) → counts n ≡ statedOf k l → n ≤ length (entriesOf k l old)
     go zero l e =
-        let values : n ∷ [] ≡ length l ∷ [] = ap (λ (x : Stated). x .values) e in
-        let counted : n ≡ length l = cc in
+        let counted : n ≡ length l = ap (λ (x : Stated Case). getD (x .values) 0 0) e in
         omega (arith, length-append l (drop (length l) old))
-    go (suc k) l e =
-        let values : n ∷ [] ≡ [] = ap (λ (x : Stated). x .values) e in
-        let z : _≡_ {A = ℕ} 0 1 = cc in
-        omega arith
+    go (suc k) l e = let z : _≡_ {A = ℕ} 0 (suc k) = ap (λ (x : Stated Case). x .number) e in absurd (omega arith)

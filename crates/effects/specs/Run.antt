@@ -1,15 +1,14 @@
 -- The operation: from the check's answer to the list.
 use mathlib.Core.Path.{_≡_, refl, sym, ap, _∙_}
 use mathlib.Core.Bool.{true, false, _&&_}
-use mathlib.Core.List.{List, [], _∷_, _++_}
-use Prim.Native.Nat.{ℕ, zero, suc, _+_, _*_, _<_, _≤_}
+use mathlib.Core.List.{List}
+use Prim.Native.Nat.{ℕ, zero, suc, _*_, _<_, _≤_}
 use native.Mathlib.Omega.{arith}
 use native.Mathlib.Nat.{zero-add}
 use lib.Dec.{ltb}
-use lib.ListN.{length, drop}
-use lib.Seq.{sets, sets-eq}
+use lib.ListN.{length}
 use borrow.Author.Tests.{lt-ltb, le-ltb}
-use Rattle.stated.specs.Stated.{refused, answered}
+use Rattle.stated.specs.Wrote.{wrote-as, wrote-front}
 use Rattle.tree.specs.Tree.{Tree, one, size}
 use Rattle.tree.specs.Below.{and-both, and-left, and-right}
 use Rattle.tree.specs.Children.{nodeOk, formed, wellFormed}
@@ -17,7 +16,7 @@ use Rattle.tree.specs.Fields.{settingsOf, countOf}
 use Rattle.tree.specs.Refusal.{listEffectsLimits, refusal, treeOf}
 use Rattle.tree.specs.Encoding.{Bytes}
 use Rattle.tree.specs.Accepted.{passed, counted-parts, counted-room, Accepted, accepted}
-use Rattle.file.specs.Answer.{verdict, verdict-refused, verdict-accepted}
+use Rattle.file.specs.Answer as check
 use Rattle.rules.specs.Effects.{effects}
 use Rattle.rules.specs.Theorems.{few-effects}
 use Rattle.readings.specs.Node.{settingsWith}
@@ -27,24 +26,24 @@ use Rattle.effects.specs.declared.Listed.the-variants.{Refused, Count}
 use Rattle.tree.specs.Kind as kind
 use Rattle.readings.specs.Input.{Input}
 
-pub refused-file : (s : List ℕ) (n : ℕ) {old : List ℕ} → refused n ≡ verdict listEffectsLimits s → Answers s old old (Refused n)
+pub refused-file : (s : List ℕ) (n : ℕ) {old : List ℕ} → check.refusedBy n ≡ check.checked listEffectsLimits s → Answers s old old (Refused n)
 unfolding number
-refused-file s n {old} e = go n (verdict-refused listEffectsLimits s n e .0) (verdict-refused listEffectsLimits s n e .1)
+refused-file s n {old} e = go n (check.checked-refused listEffectsLimits s n e .0) (check.checked-refused listEffectsLimits s n e .1)
   where
     go : (m : ℕ) → refusal listEffectsLimits s ≡ m → (m ≡ 0 → ⊥) → Answers s old old (Refused m)
     go zero r z = absurd (z refl)
     go (suc m) r z = record { answer = rw r; entries = rw r }
 
 -- An accepted file.
-module _ (s : List ℕ) (st n : ℕ) (e : answered (st ∷ n ∷ []) ≡ verdict listEffectsLimits s) where
+module _ (s : List ℕ) (st n : ℕ) (e : check.acceptedWith st n ≡ check.checked listEffectsLimits s) where
   is-zero : refusal listEffectsLimits s ≡ 0
-  is-zero = verdict-accepted listEffectsLimits s st n e .0
+  is-zero = check.checked-accepted listEffectsLimits s st n e .0
 
   is-settings : st ≡ settingsOf s
-  is-settings = verdict-accepted listEffectsLimits s st n e .1
+  is-settings = check.checked-accepted listEffectsLimits s st n e .1
 
   is-count : n ≡ countOf s
-  is-count = verdict-accepted listEffectsLimits s st n e .2
+  is-count = check.checked-accepted listEffectsLimits s st n e .2
 
   pub count-few : n ≤ 3999
   count-few = omega (arith, is-count, counted-parts (listEffectsLimits .records) s (passed listEffectsLimits s is-zero .counted) .few)
@@ -99,8 +98,8 @@ module _ (s : List ℕ) (st n : ℕ) (e : answered (st ∷ n ∷ []) ≡ verdict
         let w = a .by t root-input in
         let x : ltb (length old) (2 * countOf s) ≡ false = le-ltb (length old) (2 * countOf s) (omega (arith, is-count)) in
         let m : r ≡ length (effectList s) = w .ends ∙ zero-add (length (effects (settingsWith st) t)) ∙ ap length root-list in
-        let h : 0 + length (effectList s) ≤ length old = omega (arith, few-effects (settingsWith st) t, root-size, ap length root-list) in
+        let fits : length (effectList s) ≤ length old = omega (arith, few-effects (settingsWith st) t, root-size, ap length root-list) in
         record {
           answer = rw (is-zero, x, m);
-          entries = rw (is-zero, x) (w .entries ∙ ap (sets old 0) root-list ∙ sets-eq (effectList s) old 0 h ∙ ap (λ (k : ℕ). effectList s ++ drop k old) (zero-add (length (effectList s))));
+          entries = rw (is-zero, x) (wrote-front (wrote-as w root-list) fits);
         }

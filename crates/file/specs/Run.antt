@@ -1,10 +1,9 @@
 -- The check, test by test: which number it comes to, and the tree once the shape has passed.
 use mathlib.Core.Path.{_≡_, sym}
 use mathlib.Core.Bool.{Bool, true, false}
-use mathlib.Core.List.{List, [], _∷_}
+use mathlib.Core.List.{List}
 use Prim.Native.Nat.{ℕ, _<_, _≤_}
 use native.Mathlib.Omega.{arith}
-use Rattle.stated.specs.Stated.{refused, answered}
 use Rattle.tree.specs.Tree.{one, levels, depth}
 use Rattle.tree.specs.Below.{allBelow}
 use Rattle.tree.specs.Record.{recordOk, included}
@@ -12,31 +11,31 @@ use Rattle.tree.specs.Room.{recordsIn}
 use Rattle.tree.specs.Fields.{settingsOf, countOf, headAt}
 use Rattle.tree.specs.Refusal.{Limits, markOk, versionOk, settingsOk, countOk, recordsOk, allIncluded, shapeOk, treeOf, depthOk, refusal}
 use Rattle.tree.specs.Accepted.{Counted, counted-parts, counted-room, Rooted, rooted}
-use Rattle.file.specs.Answer.{statedOf, verdict}
+use Rattle.file.specs.Answer.{refusedBy, acceptedWith, statedOf, checked}
 use Rattle.tree.specs.Walk.{Holds, Held}
 use Rattle.file.specs.Depth.{Low}
 
-stated-as : (limits : Limits) (s : List ℕ) (k : ℕ) → refusal limits s ≡ k → statedOf k s ≡ verdict limits s
-unfolding verdict
+stated-as : (limits : Limits) (s : List ℕ) (k : ℕ) → refusal limits s ≡ k → statedOf k s ≡ checked limits s
+unfolding checked
 stated-as limits s k e = rw e
 
 module _ (limits : Limits) (s : List ℕ) where
-  pub refused-1 : markOk s ≡ false → refused 1 ≡ verdict limits s
+  pub refused-1 : markOk s ≡ false → refusedBy 1 ≡ checked limits s
   unfolding refusal
   refused-1 e = stated-as limits s 1 (rw e)
 
   module _ (mark : markOk s ≡ true) where
-    pub refused-2 : versionOk s ≡ false → refused 2 ≡ verdict limits s
+    pub refused-2 : versionOk s ≡ false → refusedBy 2 ≡ checked limits s
     unfolding refusal
     refused-2 e = stated-as limits s 2 (rw (mark, e))
 
     module _ (version : versionOk s ≡ true) where
-      pub refused-3 : settingsOk s ≡ false → refused 3 ≡ verdict limits s
+      pub refused-3 : settingsOk s ≡ false → refusedBy 3 ≡ checked limits s
       unfolding refusal
       refused-3 e = stated-as limits s 3 (rw (mark, version, e))
 
       module _ (settings : settingsOk s ≡ true) where
-        pub refused-4 : countOk (limits .records) s ≡ false → refused 4 ≡ verdict limits s
+        pub refused-4 : countOk (limits .records) s ≡ false → refusedBy 4 ≡ checked limits s
         unfolding refusal
         refused-4 e = stated-as limits s 4 (rw (mark, version, settings, e))
 
@@ -58,7 +57,7 @@ module _ {limits : Limits} {s : List ℕ} {n : ℕ} (h : Headed limits s n) wher
   pub headed-some : 0 < n
   headed-some = omega (arith, h .isN, counted-n .some)
 
-  pub refused-5 : allBelow (λ i. recordOk (headAt s i)) n ≡ false → refused 5 ≡ verdict limits s
+  pub refused-5 : allBelow (λ i. recordOk (headAt s i)) n ≡ false → refusedBy 5 ≡ checked limits s
   unfolding refusal recordsOk
   refused-5 e = stated-as limits s 5 (rw (h .mark, h .version, h .settings, h .counted, ← h .isN, e))
 
@@ -67,7 +66,7 @@ module _ {limits : Limits} {s : List ℕ} {n : ℕ} (h : Headed limits s n) wher
     unfolding recordsOk
     recorded-all = rw (← h .isN) recorded
 
-    pub refused-6 : allBelow (λ i. included (headAt s i)) n ≡ false → refused 6 ≡ verdict limits s
+    pub refused-6 : allBelow (λ i. included (headAt s i)) n ≡ false → refusedBy 6 ≡ checked limits s
     unfolding refusal allIncluded
     refused-6 e = stated-as limits s 6 (rw (h .mark, h .version, h .settings, h .counted, recorded-all, ← h .isN, e))
 
@@ -76,7 +75,7 @@ module _ {limits : Limits} {s : List ℕ} {n : ℕ} (h : Headed limits s n) wher
       unfolding allIncluded
       included-all = rw (← h .isN) inside
 
-      pub refused-7 : shapeOk s ≡ false → refused 7 ≡ verdict limits s
+      pub refused-7 : shapeOk s ≡ false → refusedBy 7 ≡ checked limits s
       unfolding refusal
       refused-7 e = stated-as limits s 7 (rw (h .mark, h .version, h .settings, h .counted, recorded-all, included-all, e))
 
@@ -97,11 +96,11 @@ module _ {limits : Limits} {s : List ℕ} {n : ℕ} (h : Headed limits s n) wher
               let e : depth (treeOf s) ≡ levels (one (treeOf s)) = omega arith in
               rw e (sym (low .by (one (treeOf s)) holds))
 
-          pub refused-8 : r ≡ false → refused 8 ≡ verdict limits s
+          pub refused-8 : r ≡ false → refusedBy 8 ≡ checked limits s
           unfolding refusal
           refused-8 e = stated-as limits s 8 (rw (h .mark, h .version, h .settings, h .counted, recorded-all, included-all, shape, depth-is, e))
 
-          pub accepted-as : r ≡ true → answered (settingsOf s ∷ n ∷ []) ≡ verdict limits s
+          pub accepted-as : r ≡ true → acceptedWith (settingsOf s) n ≡ checked limits s
           unfolding refusal
           accepted-as e =
               rw (h .isN) (stated-as limits s 0 (rw (h .mark, h .version, h .settings, h .counted, recorded-all, included-all, shape, depth-is, e)))

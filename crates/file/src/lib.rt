@@ -7,7 +7,7 @@ ghost use mathlib.Core.Path.{_≡_};
 ghost use Prim.Native.Nat.{_<_};
 ghost use Rattle.tree.specs.Refusal.{markOk, countOk};
 ghost use Rattle.tree.specs.Fields.{countOf};
-ghost use Rattle.file.specs.Answer.{limitsOf, stated, verdict};
+ghost use Rattle.file.specs.Answer.{limitsOf, stated, checked};
 
 // How many records and levels an operation takes; as definitions: `reduceLimits` and `listEffectsLimits`.
 pub const REDUCE_RECORDS: usize = 2000;
@@ -55,7 +55,7 @@ fn count_ok(src: &[u8], n: usize, most: usize) -> bool
 
 // Whether src is a tree file of at most so many records and levels.
 pub fn check(src: &[u8], records: usize, depth: usize) -> Checked
-    ensures { λ r. ⌜ stated r ≡ verdict (limitsOf records depth) (now (src .entry)) ⌝ }
+    ensures { λ r. ⌜ stated r ≡ checked (limitsOf records depth) (now (src .entry)) ⌝ }
 {
     if !mark_ok(src) {
         return Checked::Refused(1);

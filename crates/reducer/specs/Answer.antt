@@ -6,7 +6,7 @@ use Prim.Native.Nat.{ℕ, zero, suc, _+_, _*_, _-_, _≤_}
 use native.Mathlib.Omega.{arith}
 use lib.Dec.{ltb}
 use lib.ListN.{length, getD, drop, length-append}
-use Rattle.stated.specs.Stated.{Stated, refused, answered, injective-by}
+use Rattle.stated.specs.Stated.{Stated, injective-by}
 use Rattle.tree.specs.Tree.{Tree, forest, records, levels, depth}
 use Rattle.tree.specs.Layout.{width, span, start}
 use Rattle.tree.specs.Fields.{settingsOf, countOf}
@@ -19,11 +19,20 @@ use Rattle.effects.specs.Answer.{effectList}
 use Rattle.reducer.specs.declared.Reduced.{Reduced}
 use Rattle.reducer.specs.declared.Reduced.the-variants.{Refused, Removable, Kept}
 
--- A refusal states its number; an answer how many trees are left, none or one, and the length.
-abbrev pub stated : Reduced → Stated
-stated (Refused n) = refused n
-stated Removable = answered (0 ∷ 0 ∷ [])
-stated (Kept n) = answered (1 ∷ n ∷ [])
+pub data Case : Type 0 where
+  refused removable kept : Case
+
+-- "Refused: number, length 0", "Removable: length 0", "Kept: length"
+abbrev pub refusedBy : ℕ → Stated Case
+refusedBy n = record { case = Case.refused; number = n; values = 0 ∷ [] }
+
+abbrev pub answered : Case → ℕ → Stated Case
+answered case length = record { case = case; number = 0; values = length ∷ [] }
+
+abbrev pub stated : Reduced → Stated Case
+stated (Refused n) = refusedBy n
+stated Removable = answered Case.removable 0
+stated (Kept n) = answered Case.kept n
 
 -- "9 output under 8 + 16 × (2 × N − 1) bytes": the length of a file of 2 × N − 1 records
 abbrev pub leastOutput : ℕ → ℕ
@@ -49,9 +58,14 @@ fileOf settings (t ∷ ts) = fileBytes settings t
 unfoldable pub rewritten : List ℕ → List ℕ
 rewritten s = fileOf (settingsOf s) (left s)
 
-abbrev pub statedOf : ℕ → List ℕ → Stated
-statedOf zero s = answered (length (left s) ∷ length (rewritten s) ∷ [])
-statedOf (suc k) s = refused (suc k)
+-- "removable, or one rewritten tree with its length": that there is at most one is promised below.
+abbrev pub caseOf : List Tree → Case
+caseOf [] = Case.removable
+caseOf (t ∷ ts) = Case.kept
+
+abbrev pub statedOf : ℕ → List ℕ → Stated Case
+statedOf zero s = answered (caseOf (left s)) (length (rewritten s))
+statedOf (suc k) s = refusedBy (suc k)
 
 -- "Refused: .. output untouched. Removable: .. untouched. Kept: .. later bytes untouched"
 abbrev pub bytesOf : ℕ → List ℕ → List ℕ → List ℕ
@@ -90,14 +104,13 @@ pub record Answers (s old new : List ℕ) (r : Reduced) : Type 0 where
   pub promised : number s (length old) ≡ 0 → Promised s
 
 -- An answer is determined by what it states, since it can be read back.
-reducedOf : Stated → Reduced
-reducedOf s = from (s .number) (s .values)
+reducedOf : Stated Case → Reduced
+reducedOf s = from (s .case) (s .number) (s .values)
   where
-    from : ℕ → List ℕ → Reduced
-    from n [] = Refused n
-    from n (zero ∷ vs) = Removable
-    from n (suc k ∷ []) = Removable
-    from n (suc k ∷ v ∷ vs) = Kept v
+    from : Case → ℕ → List ℕ → Reduced
+    from Case.refused n vs = Refused n
+    from Case.removable n vs = Removable
+    from Case.kept n vs = Kept (getD vs 0 0)
 
 pub stated-injective : (a b : Reduced) → stated a ≡ stated b → a ≡ b
 unfolding reducedOf
@@ -110,17 +123,13 @@ stated-injective = injective-by stated reducedOf read
 
 -- The file that is kept stands in the lent bytes.
 pub kept-within : {s old new : List ℕ} {r : Reduced} {n : ℕ} → Answers s old new r → r ≡ Kept n → n ≤ length new
-kept-within {s} {old} {new} {r} {n} a kept = rw (a .bytes) (go (number s (length old)) (ap stated (sym kept) ∙ a .answer))
+kept-within {s} {old} {new} {r} {n} a is-kept = rw (a .bytes) (go (number s (length old)) (ap stated (sym is-kept) ∙ a .answer))
   where
-    go : (k : ℕ) → answered (1 ∷ n ∷ []) ≡ statedOf k s → n ≤ length (bytesOf k s old)
+    go : (k : ℕ) → answered Case.kept n ≡ statedOf k s → n ≤ length (bytesOf k s old)
     go zero e =
-        let values : 1 ∷ n ∷ [] ≡ length (left s) ∷ length (rewritten s) ∷ [] = ap (λ (x : Stated). x .values) e in
-        let counted : n ≡ length (rewritten s) = ap (λ l. getD l 1 0) values in
+        let counted : n ≡ length (rewritten s) = ap (λ (x : Stated Case). getD (x .values) 0 0) e in
         omega (arith, length-append (rewritten s) (drop (length (rewritten s)) old))
-    go (suc k) e =
-        let values : 1 ∷ n ∷ [] ≡ [] = ap (λ (x : Stated). x .values) e in
-        let z : _≡_ {A = ℕ} 1 0 = ap (λ l. getD l 0 0) values in
-        omega arith
+    go (suc k) e = let z : _≡_ {A = ℕ} 0 (suc k) = ap (λ (x : Stated Case). x .number) e in absurd (omega arith)
 
 -- The output that any answer fits: a file of 3,999 records, which 2,000 may become.
 abbrev pub mostOutput : ℕ

@@ -10,7 +10,6 @@ use lib.ListN.{length, getD, drop, length-append, length-drop, List·getD-append
 use lib.Seq.{ext-getD, getD-append-add, getD-drop}
 use borrow.Author.Tests.{lt-ltb, le-ltb}
 use Rattle.le.specs.Le.{u16At}
-use Rattle.stated.specs.Stated.{refused, answered}
 use Rattle.tree.specs.Tree.{Tree, forest, one, records, size}
 use Rattle.tree.specs.Below.{and-both, and-left, and-right, lt-or-le}
 use Rattle.tree.specs.Children.{nodeOk, formed, wellFormed}
@@ -22,7 +21,7 @@ use Rattle.tree.specs.Refusal.{reduceLimits, listEffectsLimits, refusal, treeOf
 use Rattle.tree.specs.Encoding.{Bytes, bytes-stand, length-file}
 use Rattle.tree.specs.Accepted.{passed, Counted, counted-parts, counted-room, mark-long, mark-copied, Accepted, accepted, FileOf, file-of, header-is}
 use Rattle.tree.specs.Kind as kind
-use Rattle.file.specs.Answer.{verdict, verdict-refused, verdict-accepted}
+use Rattle.file.specs.Answer as check
 use Rattle.rules.specs.Reads.{Premise}
 use Rattle.rules.specs.Reduce.{reduce}
 use Rattle.rules.specs.Theorems.{kept-same-effects, removable-no-effects, at-most-twice, one-deeper, at-most-one, kept-within}
@@ -90,21 +89,21 @@ unnumbered s room z = go (refusal reduceLimits s) (ltb room (leastOutput (countO
     go zero b z = refl
     go (suc k) b z = z
 
-pub refused-file : (s : List ℕ) (n : ℕ) {old : List ℕ} → Bytes s → refused n ≡ verdict reduceLimits s → Answers s old old (Refused n)
+pub refused-file : (s : List ℕ) (n : ℕ) {old : List ℕ} → Bytes s → check.refusedBy n ≡ check.checked reduceLimits s → Answers s old old (Refused n)
 unfolding number
-refused-file s n {old} bs e = go n (verdict-refused reduceLimits s n e .0) (verdict-refused reduceLimits s n e .1)
+refused-file s n {old} bs e = go n (check.checked-refused reduceLimits s n e .0) (check.checked-refused reduceLimits s n e .1)
   where
     go : (m : ℕ) → refusal reduceLimits s ≡ m → (m ≡ 0 → ⊥) → Answers s old old (Refused m)
     go zero r z = absurd (z refl)
     go (suc m) r z = record { answer = rw r; bytes = rw r; promised = λ q. promises s bs (unnumbered s (length old) q) }
 
 -- An accepted file.
-module _ (s : List ℕ) (st n : ℕ) (e : answered (st ∷ n ∷ []) ≡ verdict reduceLimits s) where
+module _ (s : List ℕ) (st n : ℕ) (e : check.acceptedWith st n ≡ check.checked reduceLimits s) where
   is-zero : refusal reduceLimits s ≡ 0
-  is-zero = verdict-accepted reduceLimits s st n e .0
+  is-zero = check.checked-accepted reduceLimits s st n e .0
 
   is-count : n ≡ countOf s
-  is-count = verdict-accepted reduceLimits s st n e .2
+  is-count = check.checked-accepted reduceLimits s st n e .2
 
   pub count-few : (1 ≤ n) × (n ≤ 2000)
   count-few = let k = counted-parts (reduceLimits .records) s (passed reduceLimits s is-zero .counted) in omega (arith, is-count, k .some, k .few)
@@ -119,7 +118,7 @@ module _ (s : List ℕ) (st n : ℕ) (e : answered (st ∷ n ∷ []) ≡ verdict
       record { answer = rw (is-zero, x); bytes = rw (is-zero, x); promised = λ q. promises s bs is-zero }
 
   pub file-given : Bytes s → {out : List ℕ} {least : ℕ} → least ≡ leastOutput n → least ≤ length out → GivenFile s n st out
-  file-given bs x l = record { accepted-is = is-zero; count-is = is-count; settings-is = verdict-accepted reduceLimits s st n e .1; is-bytes = bs; fits = omega (arith, x) }
+  file-given bs x l = record { accepted-is = is-zero; count-is = is-count; settings-is = check.checked-accepted reduceLimits s st n e .1; is-bytes = bs; fits = omega (arith, x) }
 
 -- A list that starts with f, copied over the first bytes of another.
 overwritten : (f rest w old new : List ℕ) → w ≡ f ++ rest → Moved w 0 (length f) old new 0 → length new ≡ length old → length f ≤ length old → new ≡ f ++ drop (length f) old

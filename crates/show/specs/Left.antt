@@ -9,12 +9,12 @@ use Rattle.tree.specs.Refusal.{listEffectsLimits, treeOf}
 use Rattle.tree.specs.Encoding.{Bytes}
 use Rattle.tree.specs.Accepted.{passed, counted-parts, counted-room, accepted}
 use Rattle.tree.specs.Walk.{Held, held-within, held-after}
-use Rattle.file.specs.Answer.{stated, verdict, verdict-accepted}
+use Rattle.file.specs.Answer.{stated, checked, checked-accepted}
 use Rattle.file.specs.declared.Checked.the-variants.{Accepted}
 
-pub file-held : (s : List ℕ) (settings n : ℕ) → stated (Accepted settings n) ≡ verdict listEffectsLimits s → Bytes s → Held s 0 n × (n < 65536)
+pub file-held : (s : List ℕ) (settings n : ℕ) → stated (Accepted settings n) ≡ checked listEffectsLimits s → Bytes s → Held s 0 n × (n < 65536)
 file-held s settings n e bs =
-    let v = verdict-accepted listEffectsLimits s settings n e in
+    let v = checked-accepted listEffectsLimits s settings n e in
     let a = accepted listEffectsLimits s bs (v .0) in
     let k = counted-parts (listEffectsLimits .records) s (passed listEffectsLimits s (v .0) .counted) in
     let held : Held s 0 n = record {

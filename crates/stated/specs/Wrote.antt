@@ -1,10 +1,11 @@
 -- What a function writes behind what stands in a lent list.
-use mathlib.Core.Path.{_≡_, refl, ap, subst, _∙_}
+use mathlib.Core.Path.{_≡_, refl, sym, ap, subst, _∙_}
 use mathlib.Core.List.{List, [], _∷_, _++_}
-use Prim.Native.Nat.{ℕ, suc, _+_}
+use Prim.Native.Nat.{ℕ, suc, _+_, _≤_}
+use native.Mathlib.Nat.{zero-add}
 use native.Mathlib.Omega.{arith}
-use lib.ListN.{length, set, length-append}
-use lib.Seq.{sets}
+use lib.ListN.{length, drop, set, length-append}
+use lib.Seq.{sets, sets-eq}
 
 -- The entries from pos on are those of l, up to next, and no other entry has changed.
 pub record Wrote (old new : List ℕ) (pos next : ℕ) (l : List ℕ) : Type 0 where
@@ -32,3 +33,15 @@ wrote-both {a} {b} {c} {p} {q} {r} {l} {m} x y = record {
 
 pub wrote-as : {a b : List ℕ} {p q : ℕ} {l m : List ℕ} → Wrote a b p q l → l ≡ m → Wrote a b p q m
 wrote-as {a} {b} {p} {q} w e = subst (λ (x : List ℕ). Wrote a b p q x) e w
+
+-- A list set from the first entry on: the list, then the entries behind it as they were.
+sets-front : (old l : List ℕ) → length l ≤ length old → sets old 0 l ≡ l ++ drop (length l) old
+sets-front old l fits =
+    let within : 0 + length l ≤ length old = omega arith in
+    sets-eq l old 0 within ∙ ap (λ (k : ℕ). l ++ drop k old) (zero-add (length l))
+
+pub wrote-front : {old new l : List ℕ} {r : ℕ} → Wrote old new 0 r l → length l ≤ length old → new ≡ l ++ drop (length l) old
+wrote-front {old} {new} {l} w fits = w .entries ∙ sets-front old l fits
+
+pub front-wrote : {old new l : List ℕ} → new ≡ l ++ drop (length l) old → length l ≤ length old → Wrote old new 0 (length l) l
+front-wrote {old} {new} {l} e fits = record { ends = omega arith; entries = e ∙ sym (sets-front old l fits) }

@@ -1,13 +1,11 @@
 -- What is left of a file, as List effects takes it: a file, or nothing.
 use mathlib.Core.Path.{_≡_, refl, sym, ap, _∙_}
-use mathlib.Core.Bool.{cond}
+use mathlib.Core.Bool.{Bool, true, false, cond, true≢false}
 use mathlib.Core.List.{List, [], _∷_, _++_}
 use Prim.Native.Nat.{ℕ, _+_, _*_, _<_, _≤_}
-use native.Mathlib.Nat.{zero-add}
 use native.Mathlib.Omega.{arith}
 use lib.Dec.{ltb}
-use lib.ListN.{length, drop}
-use lib.Seq.{sets-eq}
+use lib.ListN.{length, getD, drop}
 use borrow.Author.Tests.{lt-ltb, le-ltb}
 use Rattle.tree.specs.Tree.{Tree, forest, records, size}
 use Rattle.tree.specs.Layout.{headerBytes}
@@ -15,9 +13,9 @@ use Rattle.tree.specs.Fields.{countOf}
 use Rattle.tree.specs.Refusal.{reduceLimits, listEffectsLimits, refusal}
 use Rattle.tree.specs.Encoding.{Bytes}
 use Rattle.tree.specs.Accepted.{passed, counted-parts, mark-long, accepted, wider}
-use Rattle.stated.specs.Stated.{Stated, refused, answered}
-use Rattle.stated.specs.Wrote.{Wrote, wrote-none, wrote-as}
-use Rattle.effects.specs.Answer.{stated, number, effectList, Answers, count-within}
+use Rattle.stated.specs.Stated.{Stated}
+use Rattle.stated.specs.Wrote.{Wrote, wrote-none, wrote-as, front-wrote}
+use Rattle.effects.specs.Answer.{Case, refusedBy, counts, stated, number, effectList, Answers, count-within}
 use Rattle.effects.specs.declared.Listed.{Listed}
 use Rattle.effects.specs.declared.Listed.the-variants.{Refused, Count}
 use Rattle.reducer.specs.Answer.{left, rewritten, answerList, Promised}
@@ -122,20 +120,21 @@ pub listed-none : (s : List ℕ) {old : List ℕ} → length s ≡ 0 → Wrote o
 listed-none s {old} e = (wrote-as (wrote-none old 0) (effects-none s e), omega arith)
 
 -- A file that is accepted is not refused: what stands behind that test is never reached.
+isRefused : Case → Bool
+isRefused Case.refused = true
+isRefused Case.count = false
+
 module _ {s old new : List ℕ} {r : Listed} (z : number s (length old) ≡ 0) (a : Answers s old new r) where
   pub listed-accepted : {n : ℕ} → r ≡ Refused n → ⊥
+  unfolding isRefused
   listed-accepted {n} e =
-      let x : refused n ≡ answered (length (effectList s) ∷ []) = ap stated (sym e) ∙ a .answer ∙ rw z refl in
-      let values : [] ≡ length (effectList s) ∷ [] = ap (λ (y : Stated). y .values) x in
-      let lengths : _≡_ {A = ℕ} 0 1 = ap length values in
-      omega arith
+      let x : refusedBy n ≡ counts (length (effectList s)) = ap stated (sym e) ∙ a .answer ∙ rw z refl in
+      true≢false (ap (λ (y : Stated Case). isRefused (y .case)) x)
 
   pub listed-count : {n : ℕ} → 0 < length s → length new ≡ length old → r ≡ Count n → Wrote old new 0 n (effectsOf s) × (n ≤ length old)
   listed-count {n} l same e =
-      let x : answered (n ∷ []) ≡ answered (length (effectList s) ∷ []) = ap stated (sym e) ∙ a .answer ∙ rw z refl in
-      let values : n ∷ [] ≡ length (effectList s) ∷ [] = ap (λ (y : Stated). y .values) x in
-      let counted : n ≡ length (effectList s) = cc in
+      let x : counts n ≡ counts (length (effectList s)) = ap stated (sym e) ∙ a .answer ∙ rw z refl in
+      let counted : n ≡ length (effectList s) = ap (λ (y : Stated Case). getD (y .values) 0 0) x in
       let written : new ≡ effectList s ++ drop (length (effectList s)) old = a .entries ∙ rw z refl in
-      let fits : 0 + length (effectList s) ≤ length old = omega (arith, same, counted, count-within a e) in
-      let set = sets-eq (effectList s) old 0 fits ∙ ap (λ (k : ℕ). effectList s ++ drop k old) (zero-add (length (effectList s))) in
-      (wrote-as (record { ends = omega (arith, counted); entries = written ∙ sym set }) (sym (effects-some s l)), omega (arith, counted))
+      let fits : length (effectList s) ≤ length old = omega (arith, same, counted, count-within a e) in
+      (wrote-as (rw counted (front-wrote written fits)) (sym (effects-some s l)), omega (arith, counted))

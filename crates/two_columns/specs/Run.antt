@@ -1,19 +1,20 @@
 -- From Reduce's answer to the text.
 use mathlib.Core.Path.{_≡_, refl, sym, ap, ap₂, _∙_}
-use mathlib.Core.Bool.{false}
+use mathlib.Core.Bool.{Bool, true, false, true≢false}
 use mathlib.Core.List.{List, [], _∷_, _++_}
 use Prim.Native.Nat.{ℕ, zero, suc, _+_, _≤_}
 use native.Mathlib.Omega.{arith}
 use lib.Dec.{ltb}
-use lib.ListN.{length, take, drop, replicate, length-append, length-replicate}
+use lib.ListN.{length, getD, take, drop, replicate, length-append, length-replicate}
 use lib.Seq.{take-append-seam}
 use borrow.Author.Tests.{le-ltb}
-use Rattle.stated.specs.Stated.{Stated, refused, answered}
+use Rattle.stated.specs.Stated.{Stated}
 use Rattle.stated.specs.Wrote.{Wrote}
+use Rattle.tree.specs.Tree.{Tree}
 use Rattle.tree.specs.Fields.{countOf}
 use Rattle.tree.specs.Refusal.{reduceLimits, refusal}
 use Rattle.tree.specs.Accepted.{passed, counted-parts}
-use Rattle.reducer.specs.Answer.{leastOutput, mostOutput, most-enough, stated, number, numberBy, left, rewritten, statedOf, bytesOf, Promised, Answers}
+use Rattle.reducer.specs.Answer.{leastOutput, mostOutput, most-enough, Case, refusedBy, answered, stated, caseOf, number, numberBy, left, rewritten, statedOf, bytesOf, Promised, Answers}
 use Rattle.reducer.specs.declared.Reduced.{Reduced}
 use Rattle.reducer.specs.declared.Reduced.the-variants.{Refused, Removable, Kept}
 use Rattle.two_columns.specs.Columns.{columns, columnsBy, table, refusedLine, Printed}
@@ -41,6 +42,17 @@ printed s {old} {new} {l} {r} e w =
     let ends : r ≡ length l = omega (arith, w .0 .ends) in
     record { ends = ends ∙ ap length e; bytes = set-front w ∙ ap (λ (x : List ℕ). x ++ drop (length x) old) e }
 
+-- The answer to an accepted file is no refusal.
+isRefused : Case → Bool
+isRefused Case.refused = true
+isRefused Case.removable = false
+isRefused Case.kept = false
+
+none-refused : (l : List Tree) → true ≡ isRefused (caseOf l) → ⊥
+unfolding isRefused
+none-refused [] x = true≢false x
+none-refused (t ∷ ts) x = true≢false x
+
 module _ {s old new : List ℕ} {reduced : Reduced} (room : length old ≡ mostOutput) (a : Answers s old new reduced) where
   number-zero : number s (length old) ≡ refusal reduceLimits s
   number-zero = ap (number s) room ∙ number-is s
@@ -48,26 +60,21 @@ module _ {s old new : List ℕ} {reduced : Reduced} (room : length old ≡ mostO
   answer : stated reduced ≡ statedOf (refusal reduceLimits s) s
   answer = a .answer ∙ ap (λ (k : ℕ). statedOf k s) number-zero
 
-  -- What is answered of an accepted file has values, and a refusal has none.
-  is-accepted : {v : ℕ} {vs : List ℕ} → stated reduced ≡ answered (v ∷ vs) → refusal reduceLimits s ≡ 0
-  is-accepted {v} {vs} e = go (refusal reduceLimits s) (sym e ∙ answer)
+  -- No number is answered of an accepted file.
+  is-accepted : {c : Case} {n : ℕ} → stated reduced ≡ answered c n → refusal reduceLimits s ≡ 0
+  is-accepted {c} {n} e = go (refusal reduceLimits s) (sym e ∙ answer)
     where
-      go : (k : ℕ) → answered (v ∷ vs) ≡ statedOf k s → k ≡ 0
+      go : (k : ℕ) → answered c n ≡ statedOf k s → k ≡ 0
       go zero x = refl
-      go (suc k) x =
-          let values : v ∷ vs ≡ [] = ap (λ (y : Stated). y .values) x in
-          let lengths : suc (length vs) ≡ 0 = ap length values in
-          absurd (omega arith)
+      go (suc k) x = sym (ap (λ (y : Stated Case). y .number) x)
 
   -- The length that is answered is that of what is left.
-  length-is : {k n : ℕ} → stated reduced ≡ answered (k ∷ n ∷ []) → n ≡ length (rewritten s)
-  length-is {k} {n} e =
-      let x : answered (k ∷ n ∷ []) ≡ answered (length (left s) ∷ length (rewritten s) ∷ []) =
-      sym e ∙ answer ∙ ap (λ (j : ℕ). statedOf j s) (is-accepted e) in
-      let values : k ∷ n ∷ [] ≡ length (left s) ∷ length (rewritten s) ∷ [] = ap (λ (y : Stated). y .values) x in
-      cc
+  length-is : {c : Case} {n : ℕ} → stated reduced ≡ answered c n → n ≡ length (rewritten s)
+  length-is {c} {n} e =
+      let x : answered c n ≡ answered (caseOf (left s)) (length (rewritten s)) = sym e ∙ answer ∙ ap (λ (j : ℕ). statedOf j s) (is-accepted e) in
+      ap (λ (y : Stated Case). getD (y .values) 0 0) x
 
-  pub printed-table : {v : ℕ} {vs lent text : List ℕ} {r : ℕ} → stated reduced ≡ answered (v ∷ vs) → Wrote lent text 0 r (table s) × (r ≤ length lent) → Printed s lent text r
+  pub printed-table : {c : Case} {n : ℕ} {lent text : List ℕ} {r : ℕ} → stated reduced ≡ answered c n → Wrote lent text 0 r (table s) × (r ≤ length lent) → Printed s lent text r
   unfolding columns
   printed-table e w = printed s (sym (ap (λ (k : ℕ). columnsBy k s) (is-accepted e))) w
 
@@ -98,15 +105,12 @@ module _ {s old new : List ℕ} {reduced : Reduced} (room : length old ≡ mostO
         }
 
   pub printed-refusal : {n : ℕ} {lent text : List ℕ} {r : ℕ} → reduced ≡ Refused n → Wrote lent text 0 r (refusedLine n) × (r ≤ length lent) → Printed s lent text r
-  unfolding columns
+  unfolding columns isRefused
   printed-refusal {n} e w = printed s (go (refusal reduceLimits s) (ap stated (sym e) ∙ answer)) w
     where
-      go : (k : ℕ) → refused n ≡ statedOf k s → refusedLine n ≡ columnsBy k s
-      go zero x =
-          let values : [] ≡ length (left s) ∷ length (rewritten s) ∷ [] = ap (λ (y : Stated). y .values) x in
-          let lengths : 0 ≡ suc (suc zero) = ap length values in
-          absurd (omega arith)
-      go (suc k) x = ap (λ (y : Stated). refusedLine (y .number)) x
+      go : (k : ℕ) → refusedBy n ≡ statedOf k s → refusedLine n ≡ columnsBy k s
+      go zero x = absurd (none-refused (left s) (ap (λ (y : Stated Case). isRefused (y .case)) x))
+      go (suc k) x = ap (λ (y : Stated Case). refusedLine (y .number)) x
 
 -- The text stands within the bytes lent.
 pub printed-within : {s old new : List ℕ} {r : ℕ} → Printed s old new r → r ≤ length new

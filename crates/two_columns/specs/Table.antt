@@ -1,12 +1,11 @@
 -- The table, from what its functions return.
 use mathlib.Core.Path.{_≡_, sym, ap, ap₂, _∙_}
 use mathlib.Core.List.{List, _++_}
-use Prim.Native.Nat.{ℕ, _+_, _≤_}
-use native.Mathlib.Nat.{zero-add}
+use Prim.Native.Nat.{ℕ, _≤_}
 use native.Mathlib.Omega.{arith}
 use lib.ListN.{length, take, drop}
-use lib.Seq.{sets-eq, length-take-le, take-append-seam}
-use Rattle.stated.specs.Wrote.{Wrote, wrote-both, wrote-as}
+use lib.Seq.{length-take-le, take-append-seam}
+use Rattle.stated.specs.Wrote.{Wrote, wrote-both, wrote-as, wrote-front}
 use Rattle.text.specs.Ascii.{ascii}
 use Rattle.tree.specs.Encoding.{Bytes}
 use Rattle.effects.specs.Answer.{effectList}
@@ -15,19 +14,17 @@ use Rattle.two_columns.specs.Columns.{sideBySide, recordsLine, table}
 use Rattle.two_columns.specs.Kept.{effectsOf, recordsOf, GivenTable, file-effects, file-records, kept-effects, kept-records}
 
 -- A list written from the first entry on.
-pub set-front : {old new l : List ℕ} {r : ℕ} → Wrote old new 0 r l × (r ≤ length old) → new ≡ l ++ drop (length l) old
-set-front {old} {new} {l} {r} w =
-    let fits : 0 + length l ≤ length old = omega (arith, w .0 .ends, w .1) in
-    w .0 .entries ∙ sets-eq l old 0 fits ∙ ap (λ (k : ℕ). l ++ drop k old) (zero-add (length l))
-
 module _ {old new l : List ℕ} {r : ℕ} (w : Wrote old new 0 r l × (r ≤ length old)) where
+  pub set-front : new ≡ l ++ drop (length l) old
+  set-front = wrote-front (w .0) (omega (arith, w .0 .ends, w .1))
+
   pub front-length : length new ≡ length old → r ≡ length (take r new)
   front-length same = sym (length-take-le r new (omega (arith, w .1, same)))
 
   pub front-is : take r new ≡ l
   front-is =
       let e : r ≡ length l = omega (arith, w .0 .ends) in
-      ap₂ take e (set-front w) ∙ take-append-seam l (drop (length l) old)
+      ap₂ take e set-front ∙ take-append-seam l (drop (length l) old)
 
 module _ {s kept : List ℕ} {room : ℕ} (g : GivenTable s kept room) {x y : List ℕ} (seen : x ≡ effectsOf s) (stays : y ≡ effectsOf kept) where
   pub wrote-table : Bytes kept → {n m : ℕ} → n ≡ recordsOf s → m ≡ recordsOf kept → {a b c d : List ℕ} {p q r : ℕ} → Wrote a b 0 p (ascii "before after\n") → Wrote b c p q (sideBySide x y)

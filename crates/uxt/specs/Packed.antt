@@ -3,31 +3,28 @@ use mathlib.Core.Path.{_≡_, sym, ap, _∙_}
 use mathlib.Core.List.{List, [], _∷_}
 use Prim.Native.Nat.{ℕ, _+_, _*_}
 use native.Mathlib.Nat.{add-zero, zero-add}
-use lib.ListN.{length, drop}
-use Rattle.stated.specs.Stated.{Stated, refused, answered}
+use lib.ListN.{length, getD}
+use Rattle.stated.specs.Stated.{Stated}
+use Rattle.derived.specs.Answer as derived
 use Rattle.effects.specs.Answer.{number, effectList, statedOf, entriesOf}
 use Rattle.reducer.specs.Answer as reduction
 
--- The value of an answer, 0 where there is none.
-abbrev pub value : List ℕ → ℕ
-value [] = 0
-value (v ∷ vs) = v
+-- The refusal's number, 0 where there is none, stands above the 32 bits of the value, the count or the length.
+abbrev pub packed : {Case : Type 0} → Stated Case → ℕ
+packed s = s .number * 4294967296 + getD (s .values) 0 0
 
--- The refusal's number, 0 where there is none, stands above the 32 bits of the value.
-abbrev pub packed : Stated → ℕ
-packed s = s .number * 4294967296 + value (s .values)
+-- The Derived question: 0 for no, 1 for yes, or the refusal's number.
+abbrev pub plainBy : derived.Case → ℕ → ℕ
+plainBy derived.Case.yes number = 1
+plainBy derived.Case.no number = 0
+plainBy derived.Case.refused number = number
 
--- Where a refusal's number is never a value: the number, or with none the value.
-abbrev pub plain : Stated → ℕ
-plain s = s .number + value (s .values)
-
--- Of a reduction, the length: the value behind the number of trees that are left.
-abbrev pub packedLength : Stated → ℕ
-packedLength s = s .number * 4294967296 + value (drop 1 (s .values))
+abbrev pub plain : Stated derived.Case → ℕ
+plain s = plainBy (s .case) (s .number)
 
 -- Reduce: the answer, every lent byte, and what holds of an accepted file's answer.
 pub record PackedReduction (s old new : List ℕ) (r : ℕ) : Type 0 where
-  pub answer : r ≡ packedLength (reduction.statedOf (reduction.number s (length old)) s)
+  pub answer : r ≡ packed (reduction.statedOf (reduction.number s (length old)) s)
   pub bytes : new ≡ reduction.bytesOf (reduction.number s (length old)) s old
   pub promised : reduction.number s (length old) ≡ 0 → reduction.Promised s
 
@@ -36,20 +33,10 @@ pub record PackedListing (s old new : List ℕ) (r : ℕ) : Type 0 where
   pub answer : r ≡ packed (statedOf (number s (length old)) (effectList s))
   pub entries : new ≡ entriesOf (number s (length old)) (effectList s) old
 
-pub packed-refused : (n : ℕ) {s : Stated} → refused n ≡ s → n * 4294967296 ≡ packed s
-packed-refused n e = sym (add-zero (n * 4294967296)) ∙ ap packed e
+-- A refusal, of which the value is 0, and an answer with a value.
+module _ {Case : Type 0} where
+  pub packed-refused : (c : Case) (n : ℕ) {s : Stated Case} → record { case = c; number = n; values = 0 ∷ [] } ≡ s → n * 4294967296 ≡ packed s
+  packed-refused c n e = sym (add-zero (n * 4294967296)) ∙ ap packed e
 
-pub packed-answered : (v : ℕ) {s : Stated} → answered (v ∷ []) ≡ s → v ≡ packed s
-packed-answered v e = sym (zero-add v) ∙ ap packed e
-
-pub length-refused : (n : ℕ) {s : Stated} → refused n ≡ s → n * 4294967296 ≡ packedLength s
-length-refused n e = sym (add-zero (n * 4294967296)) ∙ ap packedLength e
-
-pub length-answered : (k v : ℕ) {s : Stated} → answered (k ∷ v ∷ []) ≡ s → v ≡ packedLength s
-length-answered k v e = sym (zero-add v) ∙ ap packedLength e
-
-pub plain-refused : (n : ℕ) {s : Stated} → refused n ≡ s → n ≡ plain s
-plain-refused n e = sym (add-zero n) ∙ ap plain e
-
-pub plain-answered : (v : ℕ) {s : Stated} → answered (v ∷ []) ≡ s → v ≡ plain s
-plain-answered v e = sym (zero-add v) ∙ ap plain e
+  pub packed-answered : (c : Case) (v : ℕ) {s : Stated Case} → record { case = c; number = 0; values = v ∷ [] } ≡ s → v ≡ packed s
+  packed-answered c v e = sym (zero-add v) ∙ ap packed e

@@ -6,9 +6,9 @@ use Prim.Native.Nat.{ℕ, zero, suc, _+_, _*_, _-_, _/_, _%_, _<_, _≤_}
 use native.Mathlib.Omega.{arith}
 use lib.Dec.{ltb}
 use lib.ListN.{length}
-use Rattle.stated.specs.Stated.{Stated, refused, answered}
+use Rattle.stated.specs.Stated.{Stated}
 use Rattle.derived.specs.Bytes.{anyOver}
-use Rattle.derived.specs.Answer.{derivedQuestion, derivedConstructorThisScope, truth}
+use Rattle.derived.specs.Answer as derived
 use Rattle.tree.specs.Room.{start-first, start-le}
 use Rattle.tree.specs.Encoding.{Bytes, length-file}
 use Rattle.tree.specs.Fields.{settingsOf, countOf}
@@ -19,73 +19,68 @@ use Rattle.tree.specs.Accepted.{accepted}
 use Rattle.rules.specs.Effects.{effects}
 use Rattle.rules.specs.Theorems.{few-effects}
 use Rattle.readings.specs.Node.{settingsWith}
-use Rattle.effects.specs.Answer.{numberBy, number, effectList, statedOf}
+use Rattle.effects.specs.Answer as listing
 use Rattle.reducer.specs.Answer as reduction
 use Rattle.reducer.specs.Run.{promises, unnumbered}
-use Rattle.uxt.specs.Packed.{packed, packedLength, plain}
-
--- Above the low 32 bits a number, or with none there a value in them.
-abbrev pub read : ℕ → ℕ → Stated
-read zero v = answered (v ∷ [])
-read (suc n) v = refused (suc n)
-
-unfoldable pub unpacked : ℕ → Stated
-unpacked r = read (r / 4294967296) (r % 4294967296)
-
-unpacked-refused : (n : ℕ) → unpacked (packed (refused (suc n))) ≡ refused (suc n)
-unfolding unpacked
-unpacked-refused n =
-    let e : (suc n * 4294967296 + 0) / 4294967296 ≡ suc n = omega arith in
-    rw e
-
-unpacked-answered : (v : ℕ) → v < 4294967296 → unpacked (packed (answered (v ∷ []))) ≡ answered (v ∷ [])
-unfolding unpacked
-unpacked-answered v small =
-    let d : (0 + v) / 4294967296 ≡ 0 = omega arith in
-    let m : (0 + v) % 4294967296 ≡ v = omega arith in
-    rw (d, m)
+use Rattle.uxt.specs.Packed.{packed, plain}
 
 -- The Derived question's answer is read back: 0 and 1 are no and yes, what is above them a number.
-abbrev pub readPlain : ℕ → Stated
-readPlain zero = answered (0 ∷ [])
-readPlain (suc zero) = answered (1 ∷ [])
-readPlain (suc (suc n)) = refused (suc (suc n))
+abbrev pub readPlain : ℕ → Stated derived.Case
+readPlain zero = derived.yesOrNo false
+readPlain (suc zero) = derived.yesOrNo true
+readPlain (suc (suc n)) = derived.refusedBy (suc (suc n))
 
-pub plain-derived : (scopes ancestors : List ℕ) → readPlain (plain (derivedQuestion scopes ancestors)) ≡ derivedQuestion scopes ancestors
-unfolding derivedQuestion
-plain-derived scopes ancestors = go (anyOver 7 scopes) (anyOver 4 ancestors) (derivedConstructorThisScope scopes ancestors)
+pub plain-derived : (scopes ancestors : List ℕ) → readPlain (plain (derived.derivedQuestion scopes ancestors)) ≡ derived.derivedQuestion scopes ancestors
+unfolding derived.derivedQuestion
+plain-derived scopes ancestors = go (anyOver 7 scopes) (anyOver 4 ancestors) (derived.derivedConstructorThisScope scopes ancestors)
   where
-    go : (a b d : Bool) → readPlain (plain (cond a (refused 11) (cond b (refused 12) (truth d)))) ≡ cond a (refused 11) (cond b (refused 12) (truth d))
+    go : (a b d : Bool) → readPlain (plain (cond a (derived.refusedBy 11) (cond b (derived.refusedBy 12) (derived.yesOrNo d)))) ≡ cond a (derived.refusedBy 11) (cond b (derived.refusedBy 12) (derived.yesOrNo d))
     go true b d = refl
     go false true d = refl
     go false false true = refl
     go false false false = refl
 
+-- What stands above the low 32 bits and in them is read back.
+number-back : (n v : ℕ) → v < 4294967296 → (n * 4294967296 + v) / 4294967296 ≡ n
+number-back n v small = omega arith
+
+value-back : (n v : ℕ) → v < 4294967296 → (n * 4294967296 + v) % 4294967296 ≡ v
+value-back n v small = omega arith
+
 -- A count is small: "count to 3,999", and a list has fewer than two effects for each record.
-count-small : (s : List ℕ) (room : ℕ) → Bytes s → number s room ≡ 0 → length (effectList s) < 4294967296
-unfolding number effectList
+count-small : (s : List ℕ) (room : ℕ) → Bytes s → listing.number s room ≡ 0 → length (listing.effectList s) < 4294967296
+unfolding listing.number listing.effectList
 count-small s room bytes none = go (refusal listEffectsLimits s) (ltb room (2 * countOf s)) refl none
   where
-    go : (k : ℕ) (short : Bool) → refusal listEffectsLimits s ≡ k → numberBy k short ≡ 0 → length (effects (settingsWith (settingsOf s)) (treeOf s)) < 4294967296
+    go : (k : ℕ) (short : Bool) → refusal listEffectsLimits s ≡ k → listing.numberBy k short ≡ 0 → length (effects (settingsWith (settingsOf s)) (treeOf s)) < 4294967296
     go zero short e z = omega (arith, few-effects (settingsWith (settingsOf s)) (treeOf s), accepted listEffectsLimits s bytes e .permitted .few)
     go (suc k) short e z = omega arith
 
+-- List effects: a number, or with none the count.
+abbrev pub readListing : ℕ → ℕ → Stated listing.Case
+readListing zero v = listing.counts v
+readListing (suc n) v = listing.refusedBy (suc n)
+
+unfoldable pub unpackedListing : ℕ → Stated listing.Case
+unpackedListing r = readListing (r / 4294967296) (r % 4294967296)
+
 -- So the answer of List effects is read back whole.
-pub unpacked-listing : (s : List ℕ) (room : ℕ) → Bytes s → unpacked (packed (statedOf (number s room) (effectList s))) ≡ statedOf (number s room) (effectList s)
-unpacked-listing s room bytes = go (number s room) (count-small s room bytes)
+pub unpacked-listing : (s : List ℕ) (room : ℕ) → Bytes s → unpackedListing (packed (listing.statedOf (listing.number s room) (listing.effectList s))) ≡ listing.statedOf (listing.number s room) (listing.effectList s)
+unfolding unpackedListing
+unpacked-listing s room bytes = go (listing.number s room) (count-small s room bytes)
   where
-    go : (k : ℕ) → (k ≡ 0 → length (effectList s) < 4294967296) → unpacked (packed (statedOf k (effectList s))) ≡ statedOf k (effectList s)
-    go zero small = unpacked-answered (length (effectList s)) (small refl)
-    go (suc k) small = unpacked-refused k
+    go : (k : ℕ) → (k ≡ 0 → length (listing.effectList s) < 4294967296) → unpackedListing (packed (listing.statedOf k (listing.effectList s))) ≡ listing.statedOf k (listing.effectList s)
+    go zero small = rw (number-back 0 (length (listing.effectList s)) (small refl), value-back 0 (length (listing.effectList s)) (small refl))
+    go (suc k) small = rw (number-back (suc k) 0 (omega arith))
 
--- A reduction's answer: above the low 32 bits a number; with none there, no tree is left where they are 0, and else one.
-abbrev pub readLength : ℕ → ℕ → Stated
-readLength zero zero = answered (0 ∷ 0 ∷ [])
-readLength zero (suc v) = answered (1 ∷ suc v ∷ [])
-readLength (suc n) v = refused (suc n)
+-- Reduce: a number; with none, a removable tree where the length is 0, and else a kept one.
+abbrev pub readReduction : ℕ → ℕ → Stated reduction.Case
+readReduction zero zero = reduction.answered reduction.Case.removable 0
+readReduction zero (suc v) = reduction.answered reduction.Case.kept (suc v)
+readReduction (suc n) v = reduction.refusedBy (suc n)
 
-unfoldable pub unpackedLength : ℕ → Stated
-unpackedLength r = readLength (r / 4294967296) (r % 4294967296)
+unfoldable pub unpackedReduction : ℕ → Stated reduction.Case
+unpackedReduction r = readReduction (r / 4294967296) (r % 4294967296)
 
 -- A rewritten file has its header at least, and at most 3,999 records.
 rewritten-small : (s : List ℕ) → reduction.Promised s → countOf s ≤ 2000 → (t : Tree) → reduction.left s ≡ t ∷ [] → (0 < length (fileBytes (settingsOf s) t)) × (length (fileBytes (settingsOf s) t) < 4294967296)
@@ -101,29 +96,23 @@ rewritten-small s p l t e =
     )
 
 -- So the answer of Reduce is read back whole.
-pub unpacked-reduction : (s : List ℕ) (room : ℕ) → Bytes s → unpackedLength (packedLength (reduction.statedOf (reduction.number s room) s)) ≡ reduction.statedOf (reduction.number s room) s
-unfolding unpackedLength reduction.rewritten
+pub unpacked-reduction : (s : List ℕ) (room : ℕ) → Bytes s → unpackedReduction (packed (reduction.statedOf (reduction.number s room) s)) ≡ reduction.statedOf (reduction.number s room) s
+unfolding unpackedReduction reduction.rewritten
 unpacked-reduction s room bytes = go (reduction.number s room) refl
   where
-    refused-back : (k : ℕ) → readLength ((suc k * 4294967296 + 0) / 4294967296) ((suc k * 4294967296 + 0) % 4294967296) ≡ refused (suc k)
-    refused-back k = let e : (suc k * 4294967296 + 0) / 4294967296 ≡ suc k = omega arith in rw e
-
-    kept-back : (v : ℕ) → 0 < v → v < 4294967296 → readLength ((0 + v) / 4294967296) ((0 + v) % 4294967296) ≡ answered (1 ∷ v ∷ [])
+    kept-back : (v : ℕ) → 0 < v → v < 4294967296 → unpackedReduction (packed (reduction.answered reduction.Case.kept v)) ≡ reduction.answered reduction.Case.kept v
     kept-back zero a b = absurd (omega arith)
-    kept-back (suc v) a b =
-        let d : (0 + suc v) / 4294967296 ≡ 0 = omega arith in
-        let m : (0 + suc v) % 4294967296 ≡ suc v = omega arith in
-        rw (d, m)
+    kept-back (suc v) a b = rw (number-back 0 (suc v) b, value-back 0 (suc v) b)
 
     left-back : reduction.Promised s → countOf s ≤ 2000 → (l : List Tree) → reduction.left s ≡ l → length (reduction.left s) ≤ 1
-        → unpackedLength (packedLength (answered (length (reduction.left s) ∷ length (reduction.rewritten s) ∷ []))) ≡ answered (length (reduction.left s) ∷ length (reduction.rewritten s) ∷ [])
+        → unpackedReduction (packed (reduction.statedOf 0 s)) ≡ reduction.statedOf 0 s
     left-back p f [] e o = rw e
     left-back p f (t ∷ []) e o = let b = rewritten-small s p f t e in rw e (kept-back (length (fileBytes (settingsOf s) t)) (b .0) (b .1))
     left-back p f (t ∷ u ∷ us) e o = absurd (omega (arith, o, ap length e))
 
-    go : (k : ℕ) → reduction.number s room ≡ k → unpackedLength (packedLength (reduction.statedOf k s)) ≡ reduction.statedOf k s
+    go : (k : ℕ) → reduction.number s room ≡ k → unpackedReduction (packed (reduction.statedOf k s)) ≡ reduction.statedOf k s
     go zero e =
         let z = unnumbered s room e in
         let p = promises s bytes z in
         left-back p (omega (arith, accepted reduceLimits s bytes z .permitted .few, accepted reduceLimits s bytes z .sized)) (reduction.left s) refl (p .at-most-one)
-    go (suc k) e = refused-back k
+    go (suc k) e = rw (number-back (suc k) 0 (omega arith))

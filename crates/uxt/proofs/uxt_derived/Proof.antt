@@ -1,6 +1,6 @@
 use mathlib.Core.Path.{sym, ap, _∙_}
 use Rattle.derived.specs.Answer.{stated}
-use Rattle.uxt.specs.Packed.{plain-refused, plain-answered}
+use Rattle.uxt.specs.Packed.{plain}
 use borrow.Author.Needs.{needs}
 use Rattle.uxt.proofs.uxt_derived.Statement.{statement}
 use Rattle.uxt.proofs.uxt_derived.Tie as tie
@@ -22,15 +22,15 @@ cast-result c = search needs
 
 returns : tie.Need-returns
 unfolding stated
-returns c = plain-answered _ (ap stated (sym (c .enum-told .given .1)) ∙ c .before .before .derived-constructor-this-scope .ensures)
+returns c = ap plain (ap stated (sym (c .enum-told .given .1)) ∙ c .before .before .derived-constructor-this-scope .ensures)
 
 returns-2 : tie.Need-returns-2
 unfolding stated
-returns-2 c = plain-answered _ (ap stated (sym (c .enum-told2 .given .1)) ∙ c .before .before .derived-constructor-this-scope .ensures)
+returns-2 c = ap plain (ap stated (sym (c .enum-told2 .given .1)) ∙ c .before .before .derived-constructor-this-scope .ensures)
 
 returns-3 : tie.Need-returns-3
 unfolding stated
-returns-3 c = plain-refused _ (ap stated (sym (c .before .answer .given .1)) ∙ c .before .before .before .derived-constructor-this-scope .ensures)
+returns-3 c = ap plain (ap stated (sym (c .before .answer .given .1)) ∙ c .before .before .before .derived-constructor-this-scope .ensures)
 
 pub uxt-derived-spec : {M : Type 1} → statement M
 uxt-derived-spec =

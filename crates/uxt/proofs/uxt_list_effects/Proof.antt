@@ -1,5 +1,5 @@
 use mathlib.Core.Path.{sym, ap, _∙_}
-use Rattle.effects.specs.Answer.{stated}
+use Rattle.effects.specs.Answer.{Case, stated}
 use Rattle.uxt.specs.Packed.{packed-refused, packed-answered}
 use borrow.Author.Needs.{needs}
 use Rattle.uxt.proofs.uxt_list_effects.Statement.{statement}
@@ -25,7 +25,7 @@ same-length c = search needs
 
 returns : tie.Need-returns
 returns c = record {
-  answer = packed-refused _ (ap stated (sym (c .before .listed .given .1)) ∙ c .before .before .before .before .before .list-effects .ensures .answer);
+  answer = packed-refused Case.refused _ (ap stated (sym (c .before .listed .given .1)) ∙ c .before .before .before .before .before .list-effects .ensures .answer);
   entries = c .before .before .before .before .before .list-effects .ensures .entries;
 }
 
@@ -34,7 +34,7 @@ same-length-2 c = search needs
 
 returns-2 : tie.Need-returns-2
 returns-2 c = record {
-  answer = packed-answered _ (ap stated (sym (c .before .listed2 .given .1)) ∙ c .before .before .before .before .before .list-effects .ensures .answer);
+  answer = packed-answered Case.count _ (ap stated (sym (c .before .listed2 .given .1)) ∙ c .before .before .before .before .before .list-effects .ensures .answer);
   entries = c .before .before .before .before .before .list-effects .ensures .entries;
 }
 

@@ -1,6 +1,6 @@
 use mathlib.Core.Path.{sym, ap, _∙_}
-use Rattle.reducer.specs.Answer.{stated}
-use Rattle.uxt.specs.Packed.{length-refused, length-answered}
+use Rattle.reducer.specs.Answer.{Case, stated}
+use Rattle.uxt.specs.Packed.{packed-refused, packed-answered}
 use borrow.Author.Needs.{needs}
 use Rattle.uxt.proofs.uxt_reduce.Statement.{statement}
 use Rattle.uxt.proofs.uxt_reduce.Tie as tie
@@ -28,7 +28,7 @@ same-length c = search needs
 
 returns : tie.Need-returns
 returns c = record {
-  answer = length-refused _ (ap stated (sym (c .before .reduced .given .1)) ∙ c .before .before .before .before .before .reduce .ensures .answer);
+  answer = packed-refused Case.refused _ (ap stated (sym (c .before .reduced .given .1)) ∙ c .before .before .before .before .before .reduce .ensures .answer);
   bytes = c .before .before .before .before .before .reduce .ensures .bytes;
   promised = c .before .before .before .before .before .reduce .ensures .promised;
 }
@@ -38,7 +38,7 @@ same-length-2 c = search needs
 
 returns-2 : tie.Need-returns-2
 returns-2 c = record {
-  answer = length-answered 0 0 (ap stated (sym (c .enum-told .given .1)) ∙ c .before .before .before .before .reduce .ensures .answer);
+  answer = packed-answered Case.removable 0 (ap stated (sym (c .enum-told .given .1)) ∙ c .before .before .before .before .reduce .ensures .answer);
   bytes = c .before .before .before .before .reduce .ensures .bytes;
   promised = c .before .before .before .before .reduce .ensures .promised;
 }
@@ -48,7 +48,7 @@ same-length-3 c = search needs
 
 returns-3 : tie.Need-returns-3
 returns-3 c = record {
-  answer = length-answered 1 _ (ap stated (sym (c .before .reduced2 .given .1)) ∙ c .before .before .before .before .before .reduce .ensures .answer);
+  answer = packed-answered Case.kept _ (ap stated (sym (c .before .reduced2 .given .1)) ∙ c .before .before .before .before .before .reduce .ensures .answer);
   bytes = c .before .before .before .before .before .reduce .ensures .bytes;
   promised = c .before .before .before .before .before .reduce .ensures .promised;
 }
