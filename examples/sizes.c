@@ -4,9 +4,8 @@
 
 #include "uxt.h"
 
-#define MOST_FILE 32008 /* a file of 2,000 records */
-
-static uint8_t file[MOST_FILE + 1], left[UXT_MOST_OUT];
+/* One byte more than is taken, so that a longer file is refused. */
+static uint8_t file[UXT_MOST_SRC + 1], left[UXT_MOST_OUT];
 static uint64_t entries[UXT_MOST_ENTRIES];
 
 static unsigned records(const uint8_t *tree) {

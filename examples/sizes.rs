@@ -37,7 +37,7 @@ fn sizes(file: &[u8]) -> Result<String, u64> {
 
 fn main() -> io::Result<()> {
     let mut file = Vec::new();
-    io::stdin().take(32009).read_to_end(&mut file)?;
+    io::stdin().take(32009).read_to_end(&mut file)?; // UXT_MOST_SRC and one byte more
     match sizes(&file) {
         Ok(text) => println!("{text}"),
         Err(number) => println!("refused {number}"),

@@ -1,14 +1,17 @@
-/* The C functions of libuxt.a, which `./uxt lib` writes to target/staticlib/.
+/* The C functions of libuxt.a and libuxt.so, which `./uxt lib` writes to target/library/ and `./uxt install PREFIX`
+ * puts under PREFIX.
  *
- * The archive is for x86-64 Linux; to link it needs memcpy and memset, which every C library has, and nothing
+ * The library is for x86-64 Linux; to link it needs memcpy and memset, which every C library has, and nothing
  * else. No function allocates, keeps state or ends the program, and each may be called from several threads at
- * once. 256 KB of stack are enough.
+ * once. 256 KB of stack are enough. What a function returns and writes is proved, but for uxt_refusal_text.
  *
  * What the caller owes, and nothing checks: a pointer is not null and its length counts what it points
  * to, also where the length is 0; memory that a function writes to does not overlap what it reads,
  * and nothing else uses it during the call.
  *
- * What a function returns says whether it refused: see each.
+ * What a function returns says whether it refused: see each. It has 64 bits, and all of them count. Of
+ * uxt_reduce and uxt_list_effects the number of a refusal stands in the upper 32: where these are lost, as in an
+ * int or through a function that is not declared, a refusal reads as a removable tree or as no effects.
  */
 #ifndef UXT_H
 #define UXT_H
@@ -19,6 +22,58 @@
 #ifdef __cplusplus
 extern "C" {
 #endif
+
+/* Of the library. A tree file has a version of its own, which is 1. */
+#define UXT_VERSION "1.0.0"
+
+/* Why a file, or what is lent, is refused; docs/FORMAT.md has each in full. 0 stands for no refusal. */
+#define UXT_REFUSED_MARK 1      /* under 8 bytes, or another mark */
+#define UXT_REFUSED_VERSION 2   /* another version of the tree file */
+#define UXT_REFUSED_SETTINGS 3  /* a setting that does not exist */
+#define UXT_REFUSED_COUNT 4     /* too many records, none, or another length than they take */
+#define UXT_REFUSED_RECORD 5    /* a kind that does not exist, or facts, a sub or a byte 3 that do not fit */
+#define UXT_REFUSED_KIND 6      /* a logical, a conditional or an assignment */
+#define UXT_REFUSED_SHAPE 7     /* child counts or sizes that do not fit, or a kind where it may not stand */
+#define UXT_REFUSED_DEPTH 8     /* too many levels */
+#define UXT_REFUSED_OUT 9       /* uxt_reduce: out is too short */
+#define UXT_REFUSED_ENTRIES 10  /* uxt_list_effects: too few entries */
+#define UXT_REFUSED_SCOPE 11    /* uxt_derived: a scope byte over 7 */
+#define UXT_REFUSED_ANCESTOR 12 /* uxt_derived: an ancestor byte over 4 */
+
+/* What UXT_KIND gives of an entry, and byte 0 of a record. */
+#define UXT_KIND_STRING 1
+#define UXT_KIND_IDENTIFIER 2
+#define UXT_KIND_FUNCTION 3
+#define UXT_KIND_ARROW 4
+#define UXT_KIND_OTHER 5
+#define UXT_KIND_THIS 6
+#define UXT_KIND_ARRAY 7
+#define UXT_KIND_ELISION 8
+#define UXT_KIND_SPREAD 9
+#define UXT_KIND_OBJECT 10
+#define UXT_KIND_PROPERTY 11
+#define UXT_KIND_TEMPLATE 12
+#define UXT_KIND_SEQUENCE 13
+#define UXT_KIND_UNARY 14
+#define UXT_KIND_BINARY 15
+#define UXT_KIND_CALL 16
+#define UXT_KIND_NEW 17
+#define UXT_KIND_CLASS 18
+#define UXT_KIND_ELEMENT 19
+#define UXT_KIND_LOGICAL 20
+#define UXT_KIND_CONDITIONAL 21
+#define UXT_KIND_ASSIGNMENT 22
+
+/* A short text for the number of a refusal, "accepted" for 0, and a text for any other number, too. It is never
+ * null, lasts as long as the program, and is not to be freed. Not proved. */
+const char *uxt_refusal_text(unsigned number);
+
+/* The number that uxt_reduce would refuse the tree file src with if out were long enough: 1 to 8, or 0 where it
+ * would take the file. src holds the whole file (docs/FORMAT.md). A file longer than UXT_MOST_SRC is refused, so one
+ * byte more is enough of any input to read. */
+#define UXT_MOST_SRC 32008
+
+uint64_t uxt_check(const uint8_t *src, size_t src_len);
 
 /* What uxt_reduce and uxt_list_effects return holds the number of the refusal, 0 where there is none, and
  * the length or the count. */
@@ -52,9 +107,11 @@ uint64_t uxt_reduce(const uint8_t *src, size_t src_len, uint8_t *out, size_t out
  * Returns the number of the refusal, 0 where there is none, times 2^32, plus the count of the effects, 0
  * where there is a refusal. The first entries are the list, and all others keep what they held. Refused
  * with 1 to 8 for a fault of the file, under List effects' limits of 3,999 records and 65 levels; with 10
- * where entries_len is under twice the record count. Then all entries keep what they held.
+ * where entries_len is under twice the record count. Then all entries keep what they held. A file longer than
+ * UXT_MOST_LISTED_SRC is refused; that is as long as one that uxt_reduce writes can be.
  *
  * An entry is place * 512 + kind * 2, plus 1 if it is a coercion. */
+#define UXT_MOST_LISTED_SRC 63992
 #define UXT_MOST_ENTRIES 7998
 #define UXT_PLACE(entry) ((uint32_t)((entry) >> 9))
 #define UXT_KIND(entry) ((uint8_t)((entry) >> 1))

@@ -1,13 +1,30 @@
 // The C functions. include/uxt.h declares them.
 use derived::Answer;
 use effects::Listed;
+use file::Checked;
 use reducer::Reduced;
 ghost use mathlib.Core.Path.{_≡_};
+ghost use Rattle.tree.specs.Refusal.{reduceLimits, refusal};
 ghost use Rattle.derived.specs.Answer.{derivedQuestion};
 ghost use Rattle.uxt.specs.Packed.{plain, PackedListing, PackedReduction};
 
 // A refusal's number stands above the 32 bits of a value.
 const NUMBER: u64 = 4294967296;
+
+// The number that Reduce would refuse the tree file src with, room apart; 0 where it would take it.
+#[no_mangle]
+pub extern "C" fn uxt_check(src: &[u8]) -> u64
+    ensures { λ r. ⌜ r ≡ refusal reduceLimits (now (src .entry)) ⌝ }
+{
+    let checked = file::check(src, file::REDUCE_RECORDS, file::REDUCE_DEPTH);
+    match checked {
+        Checked::Refused(number) => number as u64,
+        Checked::Accepted {
+            settings: _,
+            count: _,
+        } => 0,
+    }
+}
 
 // Reduces the tree file src into out: the value is the length of the rewritten file, 0 where nothing is left.
 #[no_mangle]

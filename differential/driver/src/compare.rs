@@ -175,10 +175,8 @@ impl<'s> Comparator<'s> {
         let seen = (reduction.number, listing.number);
         let due = (case.reduce, case.list);
         self.check(seen == due, || format!("refused by {seen:?}, where {due:?} is due"))?;
-        if (1..=8).contains(&case.reduce) {
-            let list = if case.list > 8 { 0 } else { case.list };
-            self.checked(&case.file, case.reduce, list)?;
-        }
+        let of_file = |number: u8| if number > 8 { 0 } else { number };
+        self.checked(&case.file, of_file(case.reduce), of_file(case.list))?;
         self.tally.refused_reductions += u64::from(case.reduce != 0);
         self.tally.refused_lists += u64::from(case.list != 0);
         self.tally.refused[case.reduce as usize] += 1;
@@ -197,7 +195,8 @@ impl<'s> Comparator<'s> {
     ) -> Result<(), Difference> {
         self.reduce(file, output_room)?;
         self.list(file, entry_room)?;
-        Ok(())
+        let first = |limits: Limits| self.sides[0].check(file, limits).unwrap_or_default();
+        self.checked(file, first(Limits::REDUCE), first(Limits::LIST_EFFECTS))
     }
 
     /// The check by itself, of the sides that offer it.

@@ -13,8 +13,10 @@ pub struct Damaged {
     pub entry_room: usize,
     pub reduce: u8,
     pub list: u8,
-    /// A record that has been damaged; the next damage falls on another.
-    touched: Option<usize>,
+    /// How many faults are in the file itself: what is lent is none of it.
+    pub faults: u8,
+    /// The record that was damaged last, so for the lower number; the next damage falls on another.
+    pub touched: Option<usize>,
 }
 
 /// One damage or two; of two, the lower number must win, wherever in the file they stand.
@@ -54,12 +56,12 @@ fn too_many(random: &mut Random) -> Damaged {
 impl Damaged {
     fn of(file: Vec<u8>) -> Damaged {
         let (output_room, entry_room) = (file::output_room(&file), 2 * file::count(&file));
-        Damaged { file, output_room, entry_room, reduce: 0, list: 0, touched: None }
+        Damaged { file, output_room, entry_room, reduce: 0, list: 0, faults: 0, touched: None }
     }
 
     /// A file that is refused for what it is.
     pub fn whole(file: Vec<u8>, reduce: u8, list: u8) -> Damaged {
-        Damaged { reduce, list, ..Damaged::of(file) }
+        Damaged { reduce, list, faults: 1, ..Damaged::of(file) }
     }
 
     /// A file to which too little is lent.
@@ -70,7 +72,7 @@ impl Damaged {
         reduce: u8,
         list: u8,
     ) -> Damaged {
-        Damaged { output_room, entry_room, ..Damaged::whole(file, reduce, list) }
+        Damaged { output_room, entry_room, reduce, list, ..Damaged::of(file) }
     }
 
     /// The lowest number stands.
@@ -102,6 +104,7 @@ impl Damaged {
             }
         };
         if done {
+            self.faults += 1;
             self.refuse(number, number);
         }
     }

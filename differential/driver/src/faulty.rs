@@ -19,6 +19,7 @@ pub struct Faulty(Operation, Lent, Touch);
 
 #[derive(Clone, Copy, Debug, PartialEq, Eq)]
 enum Operation {
+    Check,
     Reduce,
     ListEffects,
     Derived,
@@ -37,16 +38,17 @@ enum Touch {
     WriteLast,
 }
 
-/// Every fault, each under its number.
+const TOUCHES: [Touch; 3] = [Touch::ReadBefore, Touch::ReadBehind, Touch::WriteLast];
+
+/// Every fault, each under its number. The check is lent the file alone.
 pub fn faults() -> Vec<Faulty> {
     let mut faults = Vec::new();
     for operation in [Operation::Reduce, Operation::ListEffects, Operation::Derived] {
         for lent in [Lent::First, Lent::Second] {
-            for touch in [Touch::ReadBefore, Touch::ReadBehind, Touch::WriteLast] {
-                faults.push(Faulty(operation, lent, touch));
-            }
+            faults.extend(TOUCHES.map(|touch| Faulty(operation, lent, touch)));
         }
     }
+    faults.extend(TOUCHES.map(|touch| Faulty(Operation::Check, Lent::First, touch)));
     faults
 }
 
@@ -117,6 +119,7 @@ impl Side for Faulty {
     }
 
     fn check(&self, file: &[u8], limits: Limits) -> Option<u8> {
+        self.touch::<u8>(Operation::Check, file, &[]);
         Port.check(file, limits)
     }
 }

@@ -94,8 +94,14 @@ impl Side for AtEdge<'_> {
         answer
     }
 
-    /// Not offered: it is an operation that is lent nothing, and such are asked, too.
-    fn check(&self, _: &[u8], _: Limits) -> Option<u8> {
-        None
+    /// Under List effects' limits it is that operation, lent nothing; such are asked, too.
+    fn check(&self, file: &[u8], limits: Limits) -> Option<u8> {
+        if limits != Limits::REDUCE {
+            return None;
+        }
+        let file = Sealed::new(file, self.edge);
+        let number = self.side.check(file.items(), limits)?;
+        self.count(file.items().len(), number);
+        Some(number)
     }
 }

@@ -5,6 +5,7 @@
 pub mod bench;
 pub mod compare;
 pub mod damage;
+pub mod damaged;
 pub mod derived;
 #[cfg(feature = "library")]
 pub mod faulty;

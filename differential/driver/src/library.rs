@@ -29,15 +29,14 @@ impl Side for Library {
         }
     }
 
-    /// With nothing lent, 9 or 10 is due of every file that passes the check, and nothing else is done.
+    /// Under List effects' limits by that operation: with nothing lent, 10 is due of every file that
+    /// passes the check, and nothing else is done.
     fn check(&self, file: &[u8], limits: Limits) -> Option<u8> {
-        let answer = if limits.records == Limits::REDUCE.records {
-            library::reduce(file, &mut [])
-        } else {
-            library::list_effects(file, &mut [])
-        };
-        match byte(answer.number()) {
-            9 | 10 => Some(0),
+        if limits == Limits::REDUCE {
+            return Some(byte(library::check(file)));
+        }
+        match byte(library::list_effects(file, &mut []).number()) {
+            10 => Some(0),
             number => Some(number),
         }
     }

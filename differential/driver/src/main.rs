@@ -2,6 +2,7 @@
 
 use driver::bench;
 use driver::compare::{Comparator, Tally};
+use driver::damaged;
 use driver::fixed;
 use driver::hits::HITS;
 #[cfg(feature = "library")]
@@ -16,7 +17,7 @@ use driver::side::{Port, Side};
 use driver::speed;
 #[cfg(feature = "library")]
 use driver::under_damage;
-use std::io::{self, Read};
+use std::io::{self, BufWriter, Read, Write};
 use std::path::Path;
 use std::process::ExitCode;
 use std::time::Duration;
@@ -37,6 +38,9 @@ driver reduced                            a line for each of the files on standa
 driver programs [--limit SECONDS] FOLDER  runs FOLDER/columns and FOLDER/reduce on each of them, and
                                           compares what is printed with the port's answers; a run
                                           that takes longer than SECONDS, or 10, is ended
+driver damaged [--files N] [--seed S]     writes damaged files, each behind its length in two bytes,
+                                          the port's number in one, how many faults were put into
+                                          it in one, and the damaged record or 65535 in two
 driver damage [--files N] [--seed S]      damaged and random files through the library, between pages
                                           that it may not touch
 driver speed [--seed S] [--oracle PATH]   nanoseconds a record
@@ -70,6 +74,7 @@ fn main() -> ExitCode {
         "reduced" => Ok(reduced::text(&Port, &input()?)),
         "reductions" => Ok(reductions::text(&Port, &input()?)),
         "programs" => run_programs(&arguments),
+        "damaged" => write_damaged(&arguments),
         "damage" => damage(arguments.files, arguments.seed, arguments.fault),
         "speed" => measure(&arguments),
         "bench" => benchmark(&arguments),
@@ -212,6 +217,14 @@ fn input() -> Result<Vec<u8>, String> {
     let mut input = Vec::new();
     io::stdin().read_to_end(&mut input).map_err(|error| error.to_string())?;
     Ok(input)
+}
+
+fn write_damaged(arguments: &Arguments) -> Result<String, String> {
+    let mut out = BufWriter::new(io::stdout().lock());
+    damaged::write(&mut out, arguments.files, arguments.seed)
+        .and_then(|()| out.flush())
+        .map_err(|error| error.to_string())?;
+    Ok(String::new())
 }
 
 #[cfg(feature = "library")]

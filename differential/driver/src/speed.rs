@@ -67,7 +67,11 @@ pub fn walked(files: &[Vec<u8>], side: &dyn Side) -> (f64, f64) {
 /// What the check, Reduce and List effects take on the files, side by side.
 pub fn measure(sides: &[&dyn Side], files: &[Vec<u8>]) -> Vec<Measured> {
     let mut entries = vec![0; 2 * file::count(&files[0])];
-    let limits = Limits::LIST_EFFECTS;
+    let limits = if file::count(&files[0]) <= Limits::REDUCE.records {
+        Limits::REDUCE
+    } else {
+        Limits::LIST_EFFECTS
+    };
     let check = in_turns(sides, files, |side, file| black_box(side.check(file, limits)).is_some());
     let (reduce, _) = reduce(sides, None, files).expect("no oracle is asked");
     let list = in_turns(sides, files, |side, file| {

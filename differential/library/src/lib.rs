@@ -5,6 +5,8 @@ pub mod fault;
 pub mod guarded;
 
 unsafe extern "C" {
+    fn uxt_check(src: *const u8, src_len: usize) -> u64;
+
     fn uxt_reduce(src: *const u8, src_len: usize, out: *mut u8, out_len: usize) -> u64;
 
     fn uxt_list_effects(
@@ -33,6 +35,12 @@ impl Packed {
     pub fn value(&self) -> u64 {
         self.0 & 0xffff_ffff
     }
+}
+
+/// The number that Reduce would refuse the file with, room apart; 0: none.
+pub fn check(file: &[u8]) -> u64 {
+    // SAFETY: the pointer comes with the length of its slice.
+    unsafe { uxt_check(file.as_ptr(), file.len()) }
 }
 
 /// The value is the length of the file written; 0, if the tree is removable.

@@ -3,7 +3,7 @@
 use super::tree::{HEADER_SIZE, LITERAL_FACTS, RECORD_SIZE, Record, Tree, element, kind, sub};
 
 /// How many records a file may have, and how deep its tree may be.
-#[derive(Clone, Copy)]
+#[derive(Clone, Copy, PartialEq, Eq)]
 pub struct Limits {
     pub records: usize,
     pub depth: usize,
