@@ -12,33 +12,20 @@ Only the text is checked, not the tree: a file that is refused can be written to
 words for it. A fault in the text is named on standard error, `line N: what is wrong`, and the exit
 status is 1.
 
-`show` takes the file to be whole. It is a second reader, which shares no code with the crates.
+`show` refuses what the program refuses: it then writes nothing, explains the refusal on standard error (explain.py),
+and the exit status is 1. It is a second reader, which shares no code with the crates.
 """
 
 import struct
 import sys
 
+from explain import explanation
+from reader import LIST_EFFECTS
+from words import FACTS, FLAGS, FORMS, KINDS, SETTINGS, set_in
+
 HEADER = struct.Struct("<3sHBH")  # mark, version, settings, records
 RECORD = struct.Struct("<BBBBHHII")  # kind, facts, sub, zero, children, size, text, place
 MOST_RECORDS = 65535  # what the record count can say
-
-SETTINGS = {"annotations": 1, "tree-shake-only": 2, "derived": 4}
-KINDS = ("string", "identifier", "function", "arrow", "other", "this", "array", "elision", "spread", "object",
-         "property", "template", "sequence", "unary", "binary", "call", "new", "class", "element", "logical",
-         "conditional", "assignment")
-FACTS = {"effect": 1, "symbol-no": 2, "symbol-yes": 4, "string-no": 8, "string-yes": 16, "annotated": 32,
-         "listed": 64, "summary-free": 128}
-# The sub of a kind: at most one of its forms, numbered from 1 on, in bits 0 to 2; and its flags.
-FORMS = {
-    "unary": ("void", "not", "typeof", "other"),
-    "binary": ("comparison", "addition", "other"),
-    "element": ("method", "property", "accessor", "block", "index-signature"),
-}
-FLAGS = {
-    "property": {"key": 1},
-    "class": {"decorated": 1, "heritage": 2},
-    "element": {"static": 8, "computed": 16, "decorated": 32, "value": 64, "nonempty": 128},
-}
 
 # ---- From a text to a file
 
@@ -181,6 +168,7 @@ def join(records):
 
 
 def show(data):
+    """The text of a file that List effects accepts."""
     _, version, settings, _ = HEADER.unpack_from(data)
     lines = [" ".join(["uxt", str(version)] + set_in(settings, SETTINGS))]
     ends = []  # of the subtrees around the record
@@ -199,12 +187,15 @@ def sub_words(kind, sub):
     return ([FORMS[kind][form - 1]] if form > 0 else []) + set_in(sub, FLAGS.get(kind, {}))
 
 
-def set_in(byte, words):
-    """The words whose bits are set."""
-    return [word for word, bit in words.items() if byte & bit]
-
-
 # ---- The modes
+
+
+def show_or_explain(data):
+    number, text = explanation(data, LIST_EFFECTS)
+    if number:
+        sys.stderr.buffer.write(text.encode())
+        sys.exit(1)
+    sys.stdout.write(show(data))
 
 
 def main(words):
@@ -215,7 +206,7 @@ def main(words):
         except Fault as fault:
             sys.exit(str(fault))
     elif words == ["show"]:
-        sys.stdout.write(show(sys.stdin.buffer.read()))
+        show_or_explain(sys.stdin.buffer.read())
     else:
         sys.exit(__doc__)
 

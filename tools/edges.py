@@ -1,8 +1,7 @@
 #!/usr/bin/env python3
 """Edge cases of the tree file, and the answer that each of them gets.
 
-An independent reading of document 01, "The tree file" and refusals 1 to 8: it shares no code with
-the crates. The program `edges` (crates/edges) reads the cases and must print the expected lines.
+The program `edges` (crates/edges) reads the cases and must print the expected lines.
 
   edges.py cases               the cases, binary: for each its length in bytes (two bytes, little-endian)
                                and its bytes. The longest has 64,008
@@ -13,152 +12,17 @@ the crates. The program `edges` (crates/edges) reads the cases and must print th
   edges.py example NAME        the bytes of examples/NAME.uxt
   edges.py examples-expected   the lines of examples/expected: whether each file there is accepted
 
-Every answer comes from the reader below. Beside a case stands the answer worked out by hand, and
-the script stops where the two differ; only the cases of `changed_bytes` have none.
+Every answer comes from reader.py, which shares no code with the crates. Beside a case stands the
+answer worked out by hand, and the script stops where the two differ; only the cases of
+`changed_bytes` have none.
 """
 
 import pathlib
 import sys
 
-REDUCE = (2000, 64)  # most records, greatest depth
-LIST_EFFECTS = (3999, 65)
-
-(LITERAL, IDENTIFIER, FUNCTION, ARROW, OTHER_LEAF, THIS, ARRAY, ELISION, SPREAD, OBJECT, PROPERTY,
- TEMPLATE, SEQUENCE, UNARY, BINARY, CALL, NEW, CLASS, ELEMENT, LOGICAL, CONDITIONAL,
- ASSIGNMENT) = range(1, 23)
-
-# ---- The reader
-
-
-def u16(data, at):
-    return data[at] + 256 * data[at + 1]
-
-
-class Record:
-    def __init__(self, data, index):
-        at = 8 + 16 * index
-        self.kind, self.facts, self.sub, self.zero = data[at:at + 4]
-        self.children, self.size = u16(data, at + 4), u16(data, at + 6)
-
-
-def answer(data, limits):
-    """The number of the refusal, or 'SETTINGS/RECORDS'."""
-    most_records, most_depth = limits
-    if len(data) < 8 or data[0:3] != b"UXT":
-        return 1
-    if u16(data, 3) != 1:
-        return 2
-    if data[5] >= 8:
-        return 3
-    count = u16(data, 6)
-    if not 1 <= count <= most_records or len(data) != 8 + 16 * count:
-        return 4
-    records = [Record(data, i) for i in range(count)]
-    if not all(fields_fit(r) for r in records):
-        return 5
-    if any(r.kind in (LOGICAL, CONDITIONAL, ASSIGNMENT) for r in records):
-        return 6
-    try:
-        if records[0].size != count or not is_expression(records[0].kind):
-            raise Misshapen
-        depth = subtree_depth(records, 0)
-    except Misshapen:
-        return 7
-    if depth > most_depth:
-        return 8
-    return f"{data[5]}/{count}"
-
-
-def fields_fit(r):
-    return 1 <= r.kind <= 22 and facts_fit(r.kind, r.facts) and sub_fits(r.kind, r.sub) and r.zero == 0
-
-
-def facts_fit(kind, facts):
-    if kind == LITERAL:
-        return facts == 18
-    symbol, string = facts >> 1 & 3, facts >> 3 & 3
-    return (facts & ~allowed_facts(kind) == 0 and symbol != 3 and string != 3
-            and (string != 2 or symbol == 1))
-
-
-def allowed_facts(kind):
-    if kind in (ELISION, PROPERTY, ELEMENT):
-        return 0
-    return {SPREAD: 1, CALL: 255, NEW: 127}.get(kind, 31)
-
-
-def sub_fits(kind, sub):
-    if kind == ELEMENT:
-        return element_sub_fits(sub)
-    low, high = {PROPERTY: (0, 1), UNARY: (1, 4), BINARY: (1, 3), CLASS: (0, 3)}.get(kind, (0, 0))
-    return low <= sub <= high
-
-
-def element_sub_fits(sub):
-    form = sub & 7
-    if not 1 <= form <= 5:
-        return False
-    if form in (4, 5) and sub & 0b0111_1000:
-        return False
-    if sub & 0b1000_0000 and form != 4:
-        return False
-    return not (sub & 0b0100_0000 and form not in (2, 3))
-
-
-class Misshapen(Exception):
-    """A child count, a subtree size or the place of a kind is wrong."""
-
-
-def subtree_depth(records, at):
-    """The depth of the subtree at a record, all of whose shape is tested on the way."""
-    parent = records[at]
-    end = at + parent.size
-    if not child_count_fits(parent) or end > len(records):
-        raise Misshapen
-    depth, child = 0, at + 1
-    for index in range(parent.children):
-        if child >= end or not may_stand(parent, index, records[child].kind):
-            raise Misshapen
-        depth = max(depth, subtree_depth(records, child))
-        child += records[child].size
-    if child != end:
-        raise Misshapen
-    return depth + 1
-
-
-def child_count_fits(r):
-    if r.kind <= THIS or r.kind == ELISION:
-        return r.children == 0
-    if r.kind in (SPREAD, UNARY):
-        return r.children == 1
-    if r.kind == BINARY:
-        return r.children == 2
-    if r.kind == PROPERTY:
-        return r.children == 1 + r.sub
-    if r.kind in (CALL, NEW):
-        return r.children >= 1
-    if r.kind == CLASS:
-        return r.children >= (r.sub >> 1 & 1)
-    if r.kind == ELEMENT:
-        return r.children == (r.sub >> 4 & 1) + (r.sub >> 6 & 1)
-    return True
-
-
-def is_expression(kind):
-    return kind not in (ELISION, SPREAD, PROPERTY, ELEMENT)
-
-
-def may_stand(parent, index, kind):
-    if parent.kind == ARRAY:
-        return is_expression(kind) or kind in (SPREAD, ELISION)
-    if parent.kind in (CALL, NEW) and index > 0:
-        return is_expression(kind) or kind == SPREAD
-    if parent.kind == OBJECT:
-        return kind in (SPREAD, PROPERTY)
-    if parent.kind == CLASS and not (index == 0 and parent.sub & 2):
-        return kind == ELEMENT
-    return is_expression(kind)
-
+from reader import (ARRAY, ARROW, ASSIGNMENT, BINARY, CALL, CHILDREN, CLASS, CONDITIONAL, COUNT, ELEMENT, ELISION, FACTS, FUNCTION,
+                    IDENTIFIER, KIND, LIST_EFFECTS, LITERAL, LOGICAL, NEW, OBJECT, OTHER_LEAF, PROPERTY, REDUCE, SEQUENCE,
+                    SETTINGS, SIZE, SPREAD, SUB, TEMPLATE, THIS, UNARY, VERSION, ZERO, answer, of, u16)
 
 # ---- Writing tree files, whole and broken
 
@@ -185,15 +49,6 @@ def tree_file(root, settings=0):
     records = []
     put(root, records)
     return b"UXT" + bytes([1, 0, settings]) + len(records).to_bytes(2, "little") + b"".join(records)
-
-
-VERSION, SETTINGS, COUNT = 3, 5, 6  # offsets in the header
-KIND, FACTS, SUB, ZERO, CHILDREN, SIZE = 0, 1, 2, 3, 4, 6  # offsets in a record
-
-
-def of(record, field):
-    """The offset of a field of a record in the file."""
-    return 8 + 16 * record + field
 
 
 def with_byte(data, at, value):

@@ -6,7 +6,8 @@
   shown.py check PROGRAM    runs the program, and assemble.py, on all that is below
 
 The program has to print what assemble.py shows, which shares no code with it, and what is printed has
-to assemble to the file. A file that is refused has to get the number of edges.py's reader.
+to assemble to the file. A file that is refused has to get the number of reader.py from the program, and
+nothing but an explanation from assemble.py.
 """
 
 import glob
@@ -17,8 +18,10 @@ import sys
 import assemble
 from edges import (ARRAY, ARROW, ASSIGNMENT, BINARY, CALL, CLASS, CONDITIONAL, ELEMENT, ELISION, FUNCTION, IDENTIFIER, LITERAL,
                    LOGICAL, NEW, OBJECT, OTHER_LEAF, PROPERTY, SEQUENCE, SPREAD, TEMPLATE, THIS, UNARY, LIST_EFFECTS, Node,
-                   answer, chain, element_sub_fits, facts_fit, identifier, sample, tree_file)
+                   answer, chain, identifier, sample, tree_file)
+from explain import explanation
 from listings import MOST_DEPTH, MOST_RECORDS
+from reader import element_sub_fault, facts_fault
 
 HERE = pathlib.Path(__file__).resolve().parent
 
@@ -27,7 +30,7 @@ HERE = pathlib.Path(__file__).resolve().parent
 
 def every_word():
     """Each kind, with each of its subs; each byte of facts; numbers that tell their bytes apart; ten levels."""
-    facts = [x for x in range(256) if facts_fit(CALL, x)]
+    facts = [x for x in range(256) if not facts_fault(CALL, x)]
     numbers = [0, 1, 0x100, 0x10000, 0x1000000, 0x01020304, 2 ** 32 - 1]
     return Node(SEQUENCE, *[Node(kind) for kind in (LITERAL, FUNCTION, ARROW, OTHER_LEAF, THIS)],
                 *[Node(IDENTIFIER, text=text, place=place) for text, place in zip(numbers, reversed(numbers))],
@@ -37,7 +40,7 @@ def every_word():
                 *[sample(UNARY, sub) for sub in (1, 2, 3, 4)], *[sample(BINARY, sub) for sub in (1, 2, 3)],
                 *[sample(CALL, facts=x) for x in facts], *[sample(NEW, facts=x) for x in facts if x < 128],
                 *[sample(CLASS, sub) for sub in (0, 1, 2, 3)],
-                Node(CLASS, *[sample(ELEMENT, sub) for sub in range(256) if element_sub_fits(sub)]),
+                Node(CLASS, *[sample(ELEMENT, sub) for sub in range(256) if not element_sub_fault(sub)]),
                 chain(9), identifier())
 
 
@@ -55,19 +58,27 @@ def expected(data):
 
 
 def files():
-    yield "the stored file", stored()
-    for name in sorted(glob.glob(f"{HERE.parent}/examples/*.uxt")):
-        yield name, pathlib.Path(name).read_bytes()
+    yield from few_files()
     cases = (HERE.parent / "crates/listings/stdin").read_bytes()
     at = 0
     while at < len(cases):
         end = at + 2 + int.from_bytes(cases[at:at + 2], "little")
         yield f"the file at byte {at} of crates/listings/stdin", cases[at + 2:end]
         at = end
+
+
+def few_files():
+    """Those that assemble.py is run on by itself, which takes longer."""
+    yield "the stored file", stored()
+    for name in sorted(glob.glob(f"{HERE.parent}/examples/*.uxt")):
+        yield name, pathlib.Path(name).read_bytes()
     wide = Node(ARRAY, *[identifier() for _ in range(MOST_RECORDS - MOST_DEPTH + 1)])
     whole = tree_file(chain(MOST_DEPTH - 1, inner=lambda: wide))
     yield "as many records and levels as are taken", whole
     yield "the longest file, and a byte more", whole + b"\0"
+    yield "five bytes", whole[:5]
+    yield "kind 0", tree_file(Node(0))
+    yield "settings 8", tree_file(identifier(), settings=8)
 
 
 # ---- The texts
@@ -153,6 +164,19 @@ def check_file(program, name, data):
         require(assemble.assemble(text) == data, f"{name}: its text does not assemble to it")
 
 
+def check_show(name, data):
+    """assemble.py shows the file, or writes nothing and explains on standard error why it is refused."""
+    run = output(sys.executable, f"{HERE}/assemble.py", "show", data=data)
+    printed, said = run.stdout.decode(), run.stderr.decode()
+    text = expected(data)
+    if text.startswith("refused"):
+        _, explained = explanation(data, LIST_EFFECTS)
+        require(said.startswith(text), f"{name}: assemble.py says {said!r}, and the program {text!r}")
+        require((run.returncode, printed, said) == (1, "", explained), f"{name}: assemble.py prints {printed!r} and {said!r}")
+    else:
+        require((run.returncode, printed, said) == (0, text, ""), f"{name}: assemble.py prints {printed!r} and {said!r}")
+
+
 def first_difference(printed, text):
     for a, b in zip(printed.split("\n"), text.split("\n")):
         if a != b:
@@ -178,11 +202,14 @@ def check(program):
     check_kinds()
     for name, data in files():
         check_file(program, name, data)
+    for name, data in few_files():
+        check_show(name, data)
     for text in SAME:
         require(assemble.show(assemble.assemble(text)) == SAME[0], f"{text!r} assembles to another file")
     for number, text in REFUSED:
         require(expected(assemble.assemble(text)) == f"refused {number}\n", f"{text!r} is not refused with {number}")
         check_file(program, text, assemble.assemble(text))
+        check_show(text, assemble.assemble(text))
     for fault, text in FAULTS:
         run = output(sys.executable, f"{HERE}/assemble.py", data=text.encode())
         require((run.returncode, run.stdout, run.stderr.decode()) == (1, b"", fault + "\n"), f"{fault!r} is {run.stderr!r}")

@@ -1,0 +1,59 @@
+#!/usr/bin/env python3
+"""What a tree file is refused for, and where; or that it is accepted.
+
+  explain.py < FILE    under Reduce's limits; the exit status is 1 if the file is refused, and else 0
+
+It names the number, what that means, the record and where it stands, the field with its value, and the rule of
+docs/FORMAT.md that is broken. It comes from reader.py, which is not proved.
+"""
+
+import sys
+
+from reader import LIST_EFFECTS, REDUCE, SETTINGS, depth, fault, of, records_of
+from sentences import MEANS
+from words import KINDS, SETTINGS as SETTING_WORDS, set_in
+
+READ_BY = "By a second reader of the format, which is not proved; ./uxt validate is."
+
+
+def explanation(data, limits=REDUCE):
+    """The number of the refusal, 0 for none, and the text."""
+    found = fault(data, limits)
+    number = found.number if found else 0
+    lines = refused(data, found) if found else accepted(data)
+    if number in (4, 8) and fault(data, LIST_EFFECTS) is None:
+        lines.append("List effects takes it: at most {} records, and depth {}.".format(*LIST_EFFECTS))
+    return number, "".join(line + "\n" for line in lines + [READ_BY])
+
+
+def accepted(data):
+    settings = " ".join(set_in(data[SETTINGS], SETTING_WORDS)) or "none"
+    return [f"accepted: records {len(records_of(data))}, depth {depth(data)}, settings {settings}"]
+
+
+def refused(data, found):
+    lines = [f"refused {found.number}", f"means: {MEANS[found.number]}"]
+    if found.record is not None:
+        lines.append(record_line(data, found.record))
+    lines += ["in " + record_line(data, other) for other in found.others]
+    lines.append(f"field: {found.field} is {found.value}, at byte {found.offset}; {found.note}")
+    lines.append(f'rule: "{found.rule}" (docs/FORMAT.md)')
+    return lines
+
+
+def record_line(data, i):
+    kind = data[of(i, 0)]
+    word = KINDS[kind - 1] if 1 <= kind <= len(KINDS) else "no kind"
+    return f"record {i}: {word}, at byte {of(i, 0)}"
+
+
+def main(words):
+    if words:
+        sys.exit(__doc__)
+    number, text = explanation(sys.stdin.buffer.read())
+    sys.stdout.buffer.write(text.encode())  # whatever the terminal's encoding: it quotes the page
+    sys.exit(1 if number else 0)
+
+
+if __name__ == "__main__":
+    main(sys.argv[1:])
