@@ -1,4 +1,4 @@
-// Answers the Derived question for each case of standard input, a line a case.
+// For the tests: answers the Derived question for each case of standard input, a line a case.
 // A case is its scopes and then its ancestors, each list a byte for its length and then its bytes. Of the input the first 131,072
 // bytes are read.
 use derived::Answer;

@@ -1,4 +1,4 @@
-// Checks each tree file of standard input under Reduce's limits and under List effects', a line a file.
+// For the tests: checks each tree file of standard input under Reduce's limits and under List effects', a line a file.
 // A file stands behind its length in two bytes; one that is cut short is not checked.
 // Of the input the first 655,360 bytes are read.
 use cases::Next;

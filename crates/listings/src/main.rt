@@ -1,4 +1,4 @@
-// Lists the effects of each tree file of standard input. A file stands behind its length in two bytes.
+// For the tests: lists the effects of each tree file of standard input. A file stands behind its length in two bytes.
 // Printed for a file: `count` and how many effects it has, then a line for each, place/kind/coercion;
 // or `refused` and the number. A file that is cut short is not listed. Of the input the first 655,360 bytes are read.
 use cases::Next;

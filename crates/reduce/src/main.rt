@@ -1,5 +1,5 @@
-// Writes what Reduce leaves of the tree file on standard input: one tree file, or nothing.
-// A refusal is printed on standard error. The first 32,009 bytes are read: one more than the longest file that is taken.
+// Writes what Reduce leaves of a tree file: one tree file, or nothing; a refusal on standard error.
+// Of standard input the first 32,009 bytes are read: one more than the longest file that is taken.
 use libc::STDERR_FILENO;
 use libc::STDIN_FILENO;
 use libc::STDOUT_FILENO;

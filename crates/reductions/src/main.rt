@@ -1,4 +1,4 @@
-// Reduces each tree file of standard input, and prints what is left.
+// For the tests: reduces each tree file of standard input, and prints what is left.
 // A case is the file's length in two bytes, how many bytes are lent for the answer in two more, the byte that all of these
 // hold before, and the file; one that is cut short is not reduced. Printed for a case: `refused` and the number, `removable`,
 // or `kept` and the length, then the rewritten file in hexadecimal, a line for its header and a line for each record. Behind

@@ -1,4 +1,4 @@
-// Reduces each tree file of a list of the published Rust's answers, and counts what differs.
+// For the tests: reduces each tree file of a list of the published Rust's answers, and counts what differs.
 // Standard input is differential/fixed/answers.bin: `UXTL` and how many cases there are in four bytes, then for each case the
 // file and the answer, either behind its length in four bytes; an answer of no byte stands for removable. Printed: `differs`
 // and its number, from 1 on, for each case that is reduced to something else; then `cases` and how many were compared, and

@@ -1,6 +1,6 @@
-// Shows the tree file on standard input in words, a line a record.
+// Shows a tree file in words, a line a record.
 // docs/SHOW.md has the words. Of a file that List effects would refuse only `refused` and the number are printed.
-// The first 63,993 bytes are read: one more than the longest file that is taken.
+// Of standard input the first 63,993 bytes are read: one more than the longest file that is taken.
 mod buffer;
 mod words;
 

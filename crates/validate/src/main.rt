@@ -1,5 +1,5 @@
-// Says whether Reduce would take the tree file on standard input.
-// The first 32,009 bytes are read: one more than the longest file that is taken.
+// Says whether Reduce would take a tree file.
+// Of standard input the first 32,009 bytes are read: one more than the longest file that is taken.
 use file::Checked;
 use libc::STDIN_FILENO;
 use libc::STDOUT_FILENO;
