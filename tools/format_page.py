@@ -1,0 +1,183 @@
+#!/usr/bin/env python3
+"""docs/FORMAT.md, held to the library by the Python module: `format_page.py` alone.
+
+Its tables of records give the lists and the answers that stand behind them. The rows of "More lists" give the kinds and the
+coercions of their lists, and what they say is left; a row has no places of its own. Each shape of the tables from JavaScript to
+records is taken, or refused by 6 where it is of a kind that is left out. Each link leads to a heading.
+"""
+
+import pathlib
+import re
+import sys
+
+from edges import ARRAY, ASSIGNMENT, CLASS, ELEMENT, LITERAL, LOGICAL, OBJECT, PROPERTY, SPREAD, Node, tree_file
+
+ROOT = pathlib.Path(__file__).resolve().parent.parent
+sys.path.insert(0, str(ROOT / "python"))
+import uxt  # noqa: E402
+
+PAGE = (ROOT / "docs/FORMAT.md").read_text(encoding="utf-8")
+SETTINGS = {"": 0, "annotations": 1, "tree-shake-only": 2, "derived": 4}
+EFFECT = re.compile(r"`(\d+)/(\d+)/([01])`")
+SHAPE = re.compile(r"`(\d+(?:/\d+)?(?:\[[^`]*\])?)`")
+LEFT_OUT = range(LOGICAL, ASSIGNMENT + 1)
+
+
+def require(same, what):
+    if not same:
+        sys.exit(f"format_page.py: {what}")
+
+
+def section(first, behind):
+    return PAGE[PAGE.index(f"# {first}\n"):PAGE.index(f"# {behind}\n")]
+
+
+def rows(text):
+    """The cells of each row of the text's tables, but for those above a line of dashes and that line."""
+    lines = [[cell.strip() for cell in re.split(r"(?<!\\)\|", line)[1:-1]] for line in text.splitlines()]
+    return [cells for cells, after in zip(lines, lines[1:] + [[]]) if cells and "---" not in cells[:1] + after[:1]]
+
+
+def listed(data):
+    """The effects as the page writes them, or the refusal's number."""
+    try:
+        return [tuple(map(int, effect)) for effect in uxt.list_effects(data)]
+    except uxt.Refused as refused:
+        return refused.number
+
+
+def left(data):
+    """What is left, or the refusal's number."""
+    try:
+        return uxt.reduce(data)
+    except uxt.Refused as refused:
+        return refused.number
+
+
+def effects(text):
+    return [tuple(map(int, effect)) for effect in EFFECT.findall(text)]
+
+
+# ---- Tables of records
+
+
+def tables():
+    """The file of each table of records, and the line behind it."""
+    for table in re.finditer(r"(?:^\| record \|.*\n)(?:^\|.*\n)+\n?(.*)", PAGE, re.MULTILINE):
+        records = [list(map(int, cells[:8])) for cells in rows(table[0])]
+        data = b"UXT\1\0\0" + len(records).to_bytes(2, "little")
+        for _, kind, facts, sub, children, size, text, place in records:
+            data += bytes([kind, facts, sub, 0]) + children.to_bytes(2, "little") + size.to_bytes(2, "little")
+            data += text.to_bytes(4, "little") + place.to_bytes(4, "little")
+        yield data, table[1]
+
+
+def check_tables():
+    """A table is followed by its list, and by what is left of it where that is another tree."""
+    waiting, count = None, 0
+    for data, behind in tables():
+        count += 1
+        if waiting is not None:
+            before, expected = waiting
+            require(left(before) == data, f"table {count} is not what is left of the one before")
+            require(listed(data) == expected, f"table {count} has another list than the one before")
+            waiting = None
+            continue
+        require(listed(data) == effects(behind), f"table {count}: the list is {listed(data)}")
+        if behind.endswith("What is left:"):
+            waiting = data, effects(behind)
+        else:
+            require(left(data) == data, f"table {count} does not stay as it is")
+    return count
+
+
+# ---- Shapes
+
+
+def node_of(shape):
+    """The tree that a shape says; its facts are those that its kinds must have. A key, a value and any number of children stand
+    for an identifier."""
+    words = re.findall(r"\d+|[kv]|\.\.\.|[\[\]/]", shape)
+
+    def node():
+        word = words.pop(0)
+        if not word.isdigit():
+            return Node(2)
+        kind, sub, children = int(word), 0, []
+        if words[:1] == ["/"]:
+            words.pop(0)
+            sub = int(words.pop(0))
+        if words[:1] == ["["]:
+            words.pop(0)
+            while words[0] != "]":
+                children.append(Node(ELEMENT, sub=1) if kind == CLASS and words[0] == "..." and words.pop(0) else node())
+            words.pop(0)
+        if kind == OBJECT:
+            children = [child if child.kind in (SPREAD, PROPERTY) else Node(PROPERTY, child) for child in children]
+        return Node(kind, *children, sub=sub)
+
+    return node()
+
+
+def around(node):
+    parent = {SPREAD: ARRAY, PROPERTY: OBJECT, ELEMENT: CLASS}.get(node.kind)
+    return node if parent is None else Node(parent, node)
+
+
+def check_shapes():
+    count = 0
+    for cells in rows(section("Expressions", "Other leaves")):
+        for shape in SHAPE.findall(cells[1]):
+            node = node_of(shape)
+            for facts in re.findall(r"\d+", cells[2]) if len(cells) == 4 else [18 if node.kind == LITERAL else 0]:
+                node.facts = int(facts)
+                answer = listed(tree_file(around(node)))
+                require(answer == 6 if node.kind in LEFT_OUT else isinstance(answer, list), f"{shape}, facts {facts}: {answer}")
+                count += 1
+    return count
+
+
+# ---- More lists
+
+
+def with_facts(root, facts):
+    """The tree, with these facts in the order of the file."""
+    waiting, rest = [root], list(facts)
+    while waiting:
+        node = waiting.pop(0)
+        node.facts = rest.pop(0)
+        waiting = list(node.children) + waiting
+    require(rest == [], f"facts {facts} are too many")
+    return root
+
+
+def check_lists():
+    count = 0
+    for cells in rows(section("More lists", "What is left: made nodes")):
+        expression, shape, facts, settings, list_, stays = cells
+        data = tree_file(with_facts(node_of(shape.strip("`")), map(int, facts.split(", "))), settings=SETTINGS[settings])
+        answer = listed(data)
+        told = [effect[1:] for effect in effects(list_)]
+        require([effect[1:] for effect in answer] == told if isinstance(answer, list) else list_ == f"refused {answer}",
+                f"{expression}: the list is {answer}")
+        rest = {"all of it": data, "nothing": b"", "refused 6": 6}.get(stays)
+        require(left(data) == rest if rest is not None else listed(left(data)) == answer, f"{expression}: left is {left(data)!r}")
+        count += 1
+    return count
+
+
+def check_links():
+    headings = {re.sub(r"[^a-z0-9 -]", "", heading.lower()).replace(" ", "-") for heading in re.findall(r"^#+ (.*)$", PAGE, re.MULTILINE)}
+    for link in re.findall(r"\]\(#([^)]*)\)", PAGE):
+        require(link in headings, f"there is no heading for #{link}")
+
+
+def main():
+    check_links()
+    counts = check_tables(), check_shapes(), check_lists()
+    require(min(counts) > 5, f"the page was not read: {counts}")
+    print("format page: {} tables of records, {} shapes with facts, {} lists".format(*counts))
+
+
+if __name__ == "__main__":
+    main()
