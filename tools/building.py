@@ -105,7 +105,8 @@ def prove(root, words, crates, lock):
         with stopped_with_us(running):
             log = followed(running.stdout, len(crates))
     if running.returncode != 0:
-        raise Failed(f"{''.join(log)}rt {' '.join(words)} failed: see above; where nothing there says why, remove target/ and try again")
+        say("this is what rt says:\n" + "".join(log).rstrip())
+        raise Failed(f"rt {' '.join(words)} failed; where nothing above says why, remove target/ and try again")
 
 
 @contextlib.contextmanager

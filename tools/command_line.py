@@ -2,9 +2,11 @@
 """Tests of the command `uxt`: what is printed where, and with which status, whatever happens to what is read and written.
 
   command_line.py           on the programs of this repository, which must be built
-  command_line.py first     first uses: interrupted, killed, two at once, tools missing; in a copy that has nothing built
+  command_line.py first     first uses: interrupted, killed, two at once, tools missing, not proved; in a copy that has nothing
+                            built
 """
 
+import fcntl
 import os
 import pathlib
 import pty
@@ -174,8 +176,8 @@ def terminal():
     os.close(inner)
 
 
-NAMES = (b"a b.uxt", b"it's.uxt", b'a "b".uxt', b"a\nb.uxt", b"-a.uxt", b"--words.uxt", b"$HOME.uxt", b"a;b.uxt", b"*.uxt", b"\xff.uxt",
-         "ä.uxt".encode())
+NAMES = (b"a b.uxt", b"it's.uxt", b'a "b".uxt', b"a\nb.uxt", b"-a.uxt", b"--words.uxt", b"$HOME.uxt", b"a;b.uxt", b"*.uxt",
+         b"\xff.uxt", "ä.uxt".encode())
 
 
 def names():
@@ -195,7 +197,8 @@ def recipe(folder, expected):
     command = line.replace("FOLDER", shlex.quote(folder))
     ran = subprocess.run(["sh", "-c", command], cwd=ROOT, timeout=PATIENCE, check=False, capture_output=True)
     rows = [pathlib.Path(folder, os.fsdecode(name) + ".row").read_bytes() for name in NAMES]
-    require((ran.returncode, set(rows)) == (expected[0], {expected[1]}), f"the recipe for many files: {ran.returncode}, {ran.stderr!r}")
+    require((ran.returncode, set(rows)) == (expected[0], {expected[1]}),
+            f"the recipe for many files: {ran.returncode}, {ran.stderr!r}")
 
 
 def places():
@@ -229,9 +232,13 @@ def first_uses():
             shutil.copy2(ROOT / name, copy)
         without_tools(copy)
         told(copy)
-        for number in (signal.SIGTERM, signal.SIGKILL):
-            interrupted(copy, number)
+        require(not goes_on(copy, 4), "interrupted, and the proofs go on")
+        interrupted(copy, signal.SIGTERM)
+        require(not goes_on(copy, 4), "ended, and the proofs go on")
+        interrupted(copy, signal.SIGKILL)
+        require(is_proving(copy), "killed, and what still runs holds no lock")
         two_at_once(copy)
+        not_proved(copy)
 
 
 def started(copy):
@@ -262,9 +269,12 @@ def told(copy):
 
 
 def interrupted(copy, number):
-    """A later use is stopped too; behind SIGKILL the proofs go on, and the next use waits for them."""
+    """A later use is stopped too, once `rt` runs."""
     running = started(copy)
-    time.sleep(2)
+    end = time.monotonic() + PATIENCE
+    while not is_proving(copy) and time.monotonic() < end:
+        time.sleep(0.1)
+    time.sleep(1)
     ended_by(running, number)
 
 
@@ -272,6 +282,24 @@ def ended_by(running, number):
     os.killpg(running.pid, number)
     out, _ = running.communicate(timeout=PATIENCE)
     require((running.returncode, out) == (-number, b""), f"stopped by {number}: {running.returncode}, {out!r}")
+
+
+def is_proving(copy):
+    """Whether the lock is held."""
+    with open(copy / "target/uxt.lock", encoding="ascii") as lock:
+        try:
+            fcntl.flock(lock, fcntl.LOCK_EX | fcntl.LOCK_NB)
+        except BlockingIOError:
+            return True
+    return False
+
+
+def goes_on(copy, seconds):
+    """Whether proofs still run after so many seconds."""
+    end = time.monotonic() + seconds
+    while is_proving(copy) and time.monotonic() < end:
+        time.sleep(0.1)
+    return is_proving(copy)
 
 
 def two_at_once(copy):
@@ -282,6 +310,15 @@ def two_at_once(copy):
         out, err = running.communicate(timeout=BUILT)
         require((running.returncode, out) == (0, expected), f"two at once: {running.returncode}, {err!r}")
         require(b"waiting for it" in err, f"one of two at once does not wait: {err!r}")
+
+
+def not_proved(copy):
+    """A program that is not proved is not run, though an older one is there."""
+    with open(copy / f"crates/{NAME}/src/main.rt", "a", encoding="utf-8") as source:
+        source.write("\nfn wrong() -> u8 {\n    256\n}\n")
+    running = started(copy)
+    out, err = running.communicate(timeout=BUILT)
+    require((running.returncode, out) == (2, b"") and f"uxt: rt check {NAME} failed".encode() in err, f"not proved: {err!r}")
 
 
 def main(words):

@@ -10,7 +10,7 @@ import pathlib
 import re
 import sys
 
-from edges import ARRAY, ASSIGNMENT, CLASS, ELEMENT, LITERAL, LOGICAL, OBJECT, PROPERTY, SPREAD, Node, tree_file
+from edges import ARRAY, ASSIGNMENT, CLASS, ELEMENT, IDENTIFIER, LITERAL, LOGICAL, OBJECT, PROPERTY, SPREAD, Node, tree_file
 
 ROOT = pathlib.Path(__file__).resolve().parent.parent
 sys.path.insert(0, str(ROOT / "python"))
@@ -94,29 +94,37 @@ def check_tables():
 # ---- Shapes
 
 
-def node_of(shape):
-    """The tree that a shape says; its facts are those that its kinds must have. A key, a value and any number of children stand
-    for an identifier."""
-    words = re.findall(r"\d+|[kv]|\.\.\.|[\[\]/]", shape)
+class Shape:
+    """Reads a shape, such as `16[5, 2]`; a key, a value and `...` are read as an identifier."""
 
-    def node():
-        word = words.pop(0)
+    def __init__(self, text):
+        self.words = re.findall(r"\d+|[kv]|\.\.\.|[\[\]/]", text)
+
+    def took(self, word):
+        """Whether the word comes next; it is taken then."""
+        return self.words[:1] == [word] and self.words.pop(0) == word
+
+    def node(self):
+        word = self.words.pop(0)
         if not word.isdigit():
-            return Node(2)
-        kind, sub, children = int(word), 0, []
-        if words[:1] == ["/"]:
-            words.pop(0)
-            sub = int(words.pop(0))
-        if words[:1] == ["["]:
-            words.pop(0)
-            while words[0] != "]":
-                children.append(Node(ELEMENT, sub=1) if kind == CLASS and words[0] == "..." and words.pop(0) else node())
-            words.pop(0)
-        if kind == OBJECT:
-            children = [child if child.kind in (SPREAD, PROPERTY) else Node(PROPERTY, child) for child in children]
+            return Node(IDENTIFIER)
+        kind, children = int(word), []
+        sub = int(self.words.pop(0)) if self.took("/") else 0
+        if self.took("["):
+            while not self.took("]"):
+                children.append(self.child(kind))
         return Node(kind, *children, sub=sub)
 
-    return node()
+    def child(self, parent):
+        """In an object and in a class `...` are no expressions."""
+        if parent in (OBJECT, CLASS) and self.took("..."):
+            return Node(ELEMENT, sub=1) if parent == CLASS else Node(PROPERTY, Node(IDENTIFIER))
+        return self.node()
+
+
+def node_of(shape):
+    """The tree that a shape says; the facts are those that each kind must have."""
+    return Shape(shape).node()
 
 
 def around(node):
@@ -167,9 +175,10 @@ def check_lists():
 
 
 def check_links():
-    headings = {re.sub(r"[^a-z0-9 -]", "", heading.lower()).replace(" ", "-") for heading in re.findall(r"^#+ (.*)$", PAGE, re.MULTILINE)}
+    headings = re.findall(r"^#+ (.*)$", PAGE, re.MULTILINE)
+    names = {re.sub(r"[^a-z0-9 -]", "", heading.lower()).replace(" ", "-") for heading in headings}
     for link in re.findall(r"\]\(#([^)]*)\)", PAGE):
-        require(link in headings, f"there is no heading for #{link}")
+        require(link in names, f"there is no heading for #{link}")
 
 
 def main():

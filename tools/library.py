@@ -33,7 +33,8 @@ def build(root, proved):
         made = build_in(root, proved)
     except OSError as error:
         raise Failed(f"the library cannot be built: {error}") from None
-    include, archive, folder, python = (shlex.quote(str(path)) for path in (root / "include", made / "libuxt.a", made, root / "python"))
+    paths = root / "include", made / "libuxt.a", made, root / "python"
+    include, archive, folder, python = (shlex.quote(str(path)) for path in paths)
     return (f"{archive}, {soname(root)} beside it\n"
             f"C:      cc -I{include} FILE.c {archive}\n"
             f"Rust:   rustc -L {folder} FILE.rs\n"
