@@ -15,7 +15,6 @@ import signal
 import sys
 
 import building
-import explain as explaining
 import library
 import streams
 import wording
@@ -94,6 +93,7 @@ def run(name, asked):
 
 
 def explain(asked):
+    import explain as explaining  # only here: to load it takes longer than a program runs
     asked.only()
     number, text = explaining.explanation(asked.source().first(MOST_READ))
     return REFUSED if number else ANSWERED, (text.encode(), b"")

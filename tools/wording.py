@@ -9,7 +9,7 @@ An effect is its node's kind, by the words of docs/SHOW.md, and its place; `coer
 stays, and so does the line of a refusal.
 """
 
-from assemble import KINDS
+from words import KINDS
 
 BETWEEN = "  "
 
