@@ -165,13 +165,11 @@ def stopped():
 def terminal():
     """At a terminal the command says what it waits for; the end of the input is typed."""
     outer, inner = pty.openpty()
-    for name, answer in (("columns", b"refused 1\n"), ("explain", b"refused 1\n")):
-        with subprocess.Popen([UXT, name], stdin=inner, stdout=subprocess.PIPE, stderr=subprocess.PIPE) as running:
-            said = running.stderr.readline()
-            os.write(outer, b"\x04")
-            out, _ = running.communicate(timeout=PATIENCE)
-        require(b"standard input, which is a terminal" in said, f"{name} at a terminal: {said!r}")
-        require(running.returncode == 1 and out.startswith(answer), f"{name} at a terminal: {running.returncode}, {out!r}")
+    for name in ("columns", "explain"):
+        os.write(outer, b"\x04")
+        status, out, err = uxt(name, stdin=inner)
+        require(b"standard input, which is a terminal" in err, f"{name} at a terminal says {err!r}")
+        require(status == 1 and out.startswith(b"refused 1\n"), f"{name} at a terminal: {status}, {out!r}")
     os.close(outer)
     os.close(inner)
 
