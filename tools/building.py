@@ -11,6 +11,7 @@ import re
 import shutil
 import signal
 import subprocess
+import time
 
 from streams import Failed, say
 
@@ -30,13 +31,17 @@ def library(root):
 
 
 def built(root, name, path, words):
-    """The path of what `rt` makes of a crate by these words, which is due where a source is newer."""
-    crates = needed(root, name)
-    if not is_built(root, crates, path):
+    """The path of what `rt` makes of a crate by these words. That `rt` passed it is said by a mark, and not by the file itself: this is
+    there, too, where `rt` was stopped while it linked, or where the program does not write what it must."""
+    crates, mark = needed(root, name), root / "target/passed" / path.name
+    if not is_built(root, crates, path, mark):
         with locked(root) as lock:
-            if not is_built(root, crates, path):  # another may have built it
+            if not is_built(root, crates, path, mark):  # another may have built it
+                began = time.time_ns()
                 prove(root, words, crates, lock)
-                touch(path, name)
+                if newest(root, crates) < began:  # else the sources were changed meanwhile, and the next use looks again
+                    mark.parent.mkdir(exist_ok=True)
+                    mark.touch()
     return path
 
 
@@ -55,31 +60,21 @@ def needed(root, name):
     return found
 
 
-def is_built(root, crates, path):
-    """The file is there, and no source of it is newer."""
-    try:
-        made = path.stat().st_mtime_ns
-    except FileNotFoundError:
+def is_built(root, crates, path, mark):
+    """The file was passed, and neither it nor a source of it is newer."""
+    if not (path.exists() and mark.exists()):
         return False
-    folders = [root / "crates" / crate for crate in crates]
-    return newest(folders) <= made and (root / "crates.txt").stat().st_mtime_ns <= made
+    return max(path.stat().st_mtime_ns, newest(root, crates)) <= mark.stat().st_mtime_ns
 
 
-def newest(folders):
-    """When a file or a folder in these was last changed."""
-    times = [0]
-    for folder in folders:
-        for path, _, names in os.walk(folder):
+def newest(root, crates):
+    """When a file or a folder of these crates, or the list of all crates, was last changed."""
+    times = [(root / "crates.txt").stat().st_mtime_ns]
+    for crate in crates:
+        for path, _, names in os.walk(root / "crates" / crate):
             times.append(os.stat(path).st_mtime_ns)
             times += (os.stat(f"{path}/{name}").st_mtime_ns for name in names)
     return max(times)
-
-
-def touch(path, name):
-    """`rt` leaves the program as it is where no content has changed."""
-    if not path.is_file():
-        raise Failed(f"{name} was proved and not built: remove target/ and try again")
-    os.utime(path)
 
 
 @contextlib.contextmanager

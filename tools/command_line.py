@@ -2,7 +2,7 @@
 """Tests of the command `uxt`: what is printed where, and with which status, whatever happens to what is read and written.
 
   command_line.py           on the programs of this repository, which must be built
-  command_line.py first     first uses: interrupted, killed, two at once, tools missing, not proved; in a copy that has nothing
+  command_line.py first     first uses: interrupted, killed, two at once, tools missing, not passed; in a copy that has nothing
                             built
 """
 
@@ -236,7 +236,7 @@ def first_uses():
         interrupted(copy, signal.SIGKILL)
         require(is_proving(copy), "killed, and what still runs holds no lock")
         two_at_once(copy)
-        not_proved(copy)
+        not_passed(copy)
 
 
 def started(copy):
@@ -310,13 +310,25 @@ def two_at_once(copy):
         require(b"waiting for it" in err, f"one of two at once does not wait: {err!r}")
 
 
-def not_proved(copy):
-    """A program that is not proved is not run, though an older one is there."""
+def not_passed(copy):
+    """A program that does not write what it must is not run, nor the next time; nor is one that is not proved."""
+    stored = copy / f"crates/{NAME}/stdout"
+    expected = stored.read_bytes()
+    stored.write_bytes(expected + b"more\n")
+    is_not_run(copy)
+    is_not_run(copy)
+    stored.write_bytes(expected)
+    out, err = started(copy).communicate(timeout=BUILT)
+    require(out == expected, f"passed again, and it answers {out!r}, {err!r}")
     with open(copy / f"crates/{NAME}/src/main.rt", "a", encoding="utf-8") as source:
         source.write("\nfn wrong() -> u8 {\n    256\n}\n")
+    is_not_run(copy)
+
+
+def is_not_run(copy):
     running = started(copy)
     out, err = running.communicate(timeout=BUILT)
-    require((running.returncode, out) == (2, b"") and f"uxt: rt check {NAME} failed".encode() in err, f"not proved: {err!r}")
+    require((running.returncode, out) == (2, b"") and f"uxt: rt check {NAME} failed".encode() in err, f"not passed: {out!r}, {err!r}")
 
 
 def main(words):
