@@ -66,7 +66,7 @@ module _ {old : List ℕ} {at next : ℕ} (g : GivenOne old at next) where
       by = λ t d. wrote-as (record { spans = d; frame = before-all old at }) (rw (sym (flag-is t d) ∙ v));
     }
 
-    pub clear-emptied : b ≡ false → (place : Place) → place ≡ headAt old at .place → {new : List ℕ} → Recorded old new at (madeHead kind.literal 18 place) 0 1
+    pub clear-emptied : b ≡ false → (place : Place) → place ≡ headAt old at .place → {new : List ℕ} → Recorded old new at (madeHead kind.literal 0 18 place) 0 1
         → Emptied old new at next (at + 1)
     unfolding emptiedUnlessFlagged emptyLiteral
     clear-emptied v place e {new} w = record {

@@ -23,7 +23,7 @@ fn empty_unless_flagged(out: &mut [u8], at: usize, next: usize) -> usize
         return next;
     }
     let place = fields::place_at(out, at);
-    output::make_at(out, at, kind::LITERAL as u8, 18, place, 0, 1);
+    output::make_at(out, at, kind::LITERAL as u8, 0, 18, place, 0, 1);
     at + 1
 }
 

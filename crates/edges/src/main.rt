@@ -25,9 +25,19 @@ fn check_files(input: &[u8]) {
 }
 
 fn check_file(src: &[u8]) {
-    print_answer(file::check(src, file::REDUCE_RECORDS, file::REDUCE_DEPTH));
+    print_answer(file::check(
+        src,
+        file::REDUCE_RECORDS,
+        file::REDUCE_DEPTH,
+        file::REDUCE_LOGICALS,
+    ));
     io::write_all(STDOUT_FILENO, b" ");
-    print_answer(file::check(src, file::LIST_EFFECTS_RECORDS, file::LIST_EFFECTS_DEPTH));
+    print_answer(file::check(
+        src,
+        file::LIST_EFFECTS_RECORDS,
+        file::LIST_EFFECTS_DEPTH,
+        file::LIST_EFFECTS_LOGICALS,
+    ));
     io::write_all(STDOUT_FILENO, b"\n");
 }
 

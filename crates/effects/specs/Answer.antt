@@ -10,7 +10,7 @@ use Rattle.stated.specs.Stated.{Stated, injective-by}
 use Rattle.tree.specs.Fields.{settingsOf, countOf}
 use Rattle.tree.specs.Refusal.{listEffectsLimits, refusal, treeOf}
 use Rattle.rules.specs.Effects.{effects}
-use Rattle.readings.specs.Node.{settingsWith}
+use Rattle.readings.specs.Node.{settingsGiven}
 use Rattle.effects.specs.declared.Listed.{Listed}
 use Rattle.effects.specs.declared.Listed.the-variants.{Refused, Count}
 
@@ -37,9 +37,13 @@ numberBy (suc k) short = suc k
 unfoldable pub number : List ℕ → ℕ → ℕ
 number s room = numberBy (refusal listEffectsLimits s) (ltb room (2 * countOf s))
 
--- "a tree's is its root's", "under the file's settings"
-unfoldable pub effectList : List ℕ → List ℕ
-effectList s = effects (settingsWith (settingsOf s)) (treeOf s)
+-- "a tree's is its root's", "under the file's settings"; 02, N1: "the listing is lent the places that count as yes, any list"
+unfoldable pub effectListGiven : List ℕ → List ℕ → List ℕ
+effectListGiven places s = effects (settingsGiven places (settingsOf s)) (treeOf s)
+
+-- "programs lend none"
+abbrev pub effectList : List ℕ → List ℕ
+effectList s = effectListGiven [] s
 
 -- "Returns the count, later entries untouched; refused: number, count 0, entries untouched."
 abbrev pub statedOf : ℕ → List ℕ → Stated Case
@@ -50,9 +54,13 @@ abbrev pub entriesOf : ℕ → List ℕ → List ℕ → List ℕ
 entriesOf zero l old = l ++ drop (length l) old
 entriesOf (suc k) l old = old
 
-pub record Answers (s old new : List ℕ) (r : Listed) : Type 0 where
-  pub answer : stated r ≡ statedOf (number s (length old)) (effectList s)
-  pub entries : new ≡ entriesOf (number s (length old)) (effectList s) old
+pub record AnswersGiven (places s old new : List ℕ) (r : Listed) : Type 0 where
+  pub answer : stated r ≡ statedOf (number s (length old)) (effectListGiven places s)
+  pub entries : new ≡ entriesOf (number s (length old)) (effectListGiven places s) old
+
+-- Without such places it is the instance of the empty list.
+abbrev pub Answers : List ℕ → List ℕ → List ℕ → Listed → Type 0
+Answers s old new r = AnswersGiven [] s old new r
 
 -- An answer is determined by what it states, since it can be read back.
 listedOf : Stated Case → Listed
@@ -71,8 +79,8 @@ stated-injective = injective-by stated listedOf read
     read (Count n) = refl
 
 -- The effects that are counted stand in the entries.
-pub count-within : {s old new : List ℕ} {r : Listed} {n : ℕ} → Answers s old new r → r ≡ Count n → n ≤ length new
-count-within {s} {old} {new} {r} {n} a is-count = rw (a .entries) (go (number s (length old)) (effectList s) (ap stated (sym is-count) ∙ a .answer))
+pub count-within : {places s old new : List ℕ} {r : Listed} {n : ℕ} → AnswersGiven places s old new r → r ≡ Count n → n ≤ length new
+count-within {places} {s} {old} {new} {r} {n} a is-count = rw (a .entries) (go (number s (length old)) (effectListGiven places s) (ap stated (sym is-count) ∙ a .answer))
   where
     go : (k : ℕ) (l : List ℕ) → counts n ≡ statedOf k l → n ≤ length (entriesOf k l old)
     go zero l e =

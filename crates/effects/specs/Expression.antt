@@ -5,7 +5,7 @@ use mathlib.Core.List.{List}
 use Prim.Native.Nat.{ℕ, _+_, _-_, _<_, _≤_}
 use native.Mathlib.Omega.{arith}
 use lib.ListN.{length, length-append}
-use Rattle.tree.specs.Tree.{Tree, trees, one}
+use Rattle.tree.specs.Tree.{Tree, trees, one, count}
 use Rattle.tree.specs.Fields.{headAt, subtreeAt}
 use Rattle.rules.specs.Lists.{concatMap, keepIf}
 use Rattle.rules.specs.Settings.{Settings}
@@ -15,7 +15,7 @@ use Rattle.effects.specs.Plan.{Planned, Plans}
 use Rattle.effects.specs.Passed.{isPassed}
 use Rattle.effects.specs.declared.listing.Part.the-variants.{Coerced}
 use Rattle.effects.specs.declared.plan.Plan.{Plan}
-use Rattle.effects.specs.declared.plan.Plan.the-variants.{Nothing, Children, Arguments}
+use Rattle.effects.specs.declared.plan.Plan.the-variants.{Nothing, Children, Arguments, Test}
 use Rattle.effects.specs.declared.plan.Plan.the-variants as plan
 use Rattle.stated.specs.Wrote.{Wrote, wrote-none, wrote-both, wrote-as}
 use Rattle.effects.specs.Listing.{InOrder, of, allListedAs, GivenChildren, ListedChildren, GivenTree, ListedTree}
@@ -26,6 +26,23 @@ use Rattle.readings.specs.First.{GivenFirst}
 pub record GivenExpression (s : List ℕ) (at size depth : ℕ) (st : Settings) (pos room : ℕ) : Type 0 where
   pub given : GivenTree s at size depth st InOrder pos room
   pub inner : isPassed (headAt s at .kind) ≡ false
+
+-- A function for one plan.
+pub record GivenPlanned (s : List ℕ) (at size depth : ℕ) (st : Settings) (p : Plan) (pos room : ℕ) : Type 0 where
+  pub given : GivenTree s at size depth st InOrder pos room
+  pub plan : Plans s at st p
+
+-- A first child, where there is one.
+module _ {s : List ℕ} {at size depth : ℕ} (some : (t : Tree) → Input s at size depth (one t) → 1 ≤ count (t .kids)) where
+  first-split : (t : Tree) → Input s at size depth (one t) → Split s at size depth t 1 (subtreeAt s (at + 1))
+  first-split t i = split i 1 (omega arith) (some t i)
+
+  module _ {st : Settings} {pos room : ℕ} (g : GivenTree s at size depth st InOrder pos room) where
+    first-of : GivenFirst s at 1
+    first-of = given-first (g .input) 1 (some (g .tree) (g .input))
+
+    within-of : (k : ℕ) → k ≡ subtreeAt s (at + 1) → k ≤ size - 1
+    within-of k ek = omega (arith, ek, first-split (g .tree) (g .input) .within)
 
 module _ {s : List ℕ} {at size depth : ℕ} {st : Settings} where
   pub plan-at : (P : Plan) → Plans s at st P → (t : Tree) → Input s at size depth (one t) → Planned st t P
@@ -57,21 +74,45 @@ module _ {s : List ℕ} {at size depth : ℕ} {st : Settings} where
     template-done a = record { by = λ t i. wrote-as (a .by (t .kids) (kids-input i)) (sym (plan-at plan.Coerced p t i .is)) }
 
   module _ (p : Plans s at st Arguments) where
-    callee-split : (t : Tree) → Input s at size depth (one t) → Split s at size depth t 1 (subtreeAt s (at + 1))
-    callee-split t i = split i 1 (omega arith) (plan-at Arguments p t i .has)
+    has-callee : (t : Tree) → Input s at size depth (one t) → 1 ≤ count (t .kids)
+    has-callee t i = plan-at Arguments p t i .has
 
-    arguments-list : (t : Tree) (i : Input s at size depth (one t)) → allListedAs st InOrder (callee-split t i .rest) ≡ effects st t
-    arguments-list t i = ap (concatMap (effects st)) (callee-split t i .rest-is) ∙ sym (plan-at Arguments p t i .is)
+    arguments-list : (t : Tree) (i : Input s at size depth (one t)) → allListedAs st InOrder (first-split has-callee t i .rest) ≡ effects st t
+    arguments-list t i = ap (concatMap (effects st)) (first-split has-callee t i .rest-is) ∙ sym (plan-at Arguments p t i .is)
 
     pub callee-first : {pos room : ℕ} → GivenTree s at size depth st InOrder pos room → GivenFirst s at 1
-    callee-first g = given-first (g .input) 1 (plan-at Arguments p (g .tree) (g .input) .has)
+    callee-first g = first-of has-callee g
 
     module _ (k : ℕ) (ek : k ≡ subtreeAt s (at + 1)) where
       pub callee-within : {pos room : ℕ} → GivenTree s at size depth st InOrder pos room → k ≤ size - 1
-      callee-within g = omega (arith, ek, callee-split (g .tree) (g .input) .within)
+      callee-within g = within-of has-callee g k ek
 
       pub arguments-given : {pos room : ℕ} → GivenTree s at size depth st InOrder pos room → GivenChildren s (at + 1 + k) (size - 1 - k) (depth - 1) st InOrder pos room
-      arguments-given g = rw ek (record { forest = callee-split (g .tree) (g .input) .rest; input = callee-split (g .tree) (g .input) .rest-in; fits = rw (arguments-list (g .tree) (g .input)) (g .fits) })
+      arguments-given g =
+          let parts = first-split has-callee (g .tree) (g .input) in
+          rw ek (record { forest = parts .rest; input = parts .rest-in; fits = rw (arguments-list (g .tree) (g .input)) (g .fits) })
 
       pub arguments-done : {old new : List ℕ} {pos r : ℕ} → ListedChildren s (at + 1 + k) (size - 1 - k) (depth - 1) st InOrder old new pos r → ListedTree s at size depth st InOrder old new pos r
-      arguments-done a = record { by = λ t i. wrote-as ((rw ek at a) .by (callee-split t i .rest) (callee-split t i .rest-in)) (arguments-list t i) }
+      arguments-done a = record { by = λ t i. let parts = first-split has-callee t i in wrote-as ((rw ek at a) .by (parts .rest) (parts .rest-in)) (arguments-list t i) }
+
+  module _ (p : Plans s at st Test) where
+    has-test : (t : Tree) → Input s at size depth (one t) → 1 ≤ count (t .kids)
+    has-test t i = plan-at Test p t i .has
+
+    test-list : (t : Tree) (i : Input s at size depth (one t)) → allListedAs st InOrder (first-split has-test t i .first) ≡ effects st t
+    test-list t i = ap (concatMap (effects st)) (first-split has-test t i .first-is) ∙ sym (plan-at Test p t i .is)
+
+    pub test-first : {pos room : ℕ} → GivenTree s at size depth st InOrder pos room → GivenFirst s at 1
+    test-first g = first-of has-test g
+
+    module _ (k : ℕ) (ek : k ≡ subtreeAt s (at + 1)) where
+      pub test-within : {pos room : ℕ} → GivenTree s at size depth st InOrder pos room → k ≤ size - 1
+      test-within g = within-of has-test g k ek
+
+      pub test-given : {pos room : ℕ} → GivenTree s at size depth st InOrder pos room → GivenChildren s (at + 1) k (depth - 1) st InOrder pos room
+      test-given g =
+          let parts = first-split has-test (g .tree) (g .input) in
+          rw ek (record { forest = parts .first; input = parts .first-in; fits = rw (test-list (g .tree) (g .input)) (g .fits) })
+
+      pub test-done : {old new : List ℕ} {pos r : ℕ} → ListedChildren s (at + 1) k (depth - 1) st InOrder old new pos r → ListedTree s at size depth st InOrder old new pos r
+      test-done a = record { by = λ t i. let parts = first-split has-test t i in wrote-as ((rw ek at a) .by (parts .first) (parts .first-in)) (test-list t i) }

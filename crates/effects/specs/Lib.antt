@@ -6,6 +6,7 @@ pub mod Given
 pub mod Children
 pub mod Child
 pub mod Expression
+pub mod Arm
 pub mod Sum
 pub mod Class
 pub mod Answer

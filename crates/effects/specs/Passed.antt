@@ -17,7 +17,7 @@ use Rattle.rules.specs.Settings.{Settings, derived}
 use Rattle.rules.specs.Facts.{flagged}
 use Rattle.rules.specs.Effects.{effects, effectsOf, itselfIf}
 use Rattle.readings.specs.Input.{Input}
-use Rattle.readings.specs.Node.{Node}
+use Rattle.readings.specs.Node.{Node, settingsGiven}
 use Rattle.effects.specs.Plan.{leaf-is, this-is, elision-is, array-is, object-is, property-is, sequence-is}
 
 abbrev pub isPassed : ℕ → Bool
@@ -28,6 +28,10 @@ isPassed k =
 -- `itself`: whether the node is listed itself.
 pub record Passes (b : List ℕ) (i : ℕ) (s : Settings) (itself : Bool) : Type 0 where
   pub by : (t : Tree) → Node b i t → nodeOk (t .head) (t .kids) ≡ true → effects s t ≡ itselfIf itself t ++ effectsOf s (trees (t .kids))
+
+-- The same under all settings of one byte.
+pub record PassesWith (b : List ℕ) (i byte : ℕ) (itself : Bool) : Type 0 where
+  pub by : (places : List ℕ) → Passes b i (settingsGiven places byte) itself
 
 -- The numbers that stand for tables are the rules at every kind below 32, and beyond it no kind is passed.
 passed-bit : ℕ → Bool

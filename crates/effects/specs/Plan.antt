@@ -3,26 +3,28 @@ use mathlib.Core.Path.{_≡_, refl, sym, ap, ap₂, _∙_}
 use mathlib.Core.Bool.{Bool, true, false, cond}
 use mathlib.Core.List.{List, [], _∷_, _++_, map, append-nil}
 use Prim.Native.Nat.{ℕ, _/_, _%_, _≤_}
+use native.Mathlib.Omega.{arith}
 use lib.Dec.{eqb, leb}
-use lib.ListN.{drop}
-use borrow.Author.Tests.{ne-eqb, leb-true}
+use lib.ListN.{take, drop, take-append-drop}
+use borrow.Author.Tests.{ne-eqb, eqb-true, leb-true}
 use Rattle.tree.specs.Tree.{Tree, trees, count}
 use Rattle.tree.specs.Heads.{bare}
 use Rattle.tree.specs.Children.{childCountOk, nodeOk}
 use Rattle.tree.specs.Stands.{node-parts}
 use Rattle.rules.specs.Lists.{concatMap, ofTwo}
-use Rattle.rules.specs.Settings.{Settings, derived}
+use Rattle.rules.specs.Settings.{Settings, annotations, derived}
 use Rattle.rules.specs.Handler.{Handler, handler}
-use Rattle.rules.specs.Facts.{flagged, ofIdentifier, pureNew, pureCall}
+use Rattle.rules.specs.Facts.{flagged, listed, ofIdentifier, pureNew, pureCall, testIsYes}
+use Rattle.rules.specs.Conditional.{testOf, armsOf, consequentOf, alternateOf}
 use Rattle.rules.specs.Class.{heritage, elements}
 use Rattle.rules.specs.Effects.{Evaluated, evaluate, effects, effectsOf, effectsBy, itselfIf, coercion, additionEffect, childrenInOrder, classIsEffect}
 use Rattle.rules.specs.Proofs.Lists.{by-cond, take-map, drop-map, concatMap-map}
 use Rattle.rules.specs.Proofs.Unfold.{evaluated, inOrder-is}
-use Rattle.rules.specs.Proofs.Effects.{own, coerced-is}
-use Rattle.readings.specs.Node.{Node}
+use Rattle.rules.specs.Proofs.Effects.{own, effectsOf-append, coerced-is}
+use Rattle.readings.specs.Node.{Node, settingsGiven, settingsWith}
 use Rattle.tree.specs.Kind as kind
 use Rattle.effects.specs.declared.plan.Plan.{Plan}
-use Rattle.effects.specs.declared.plan.Plan.the-variants.{Nothing, Children, Coerced, Arguments, Addition, Class}
+use Rattle.effects.specs.declared.plan.Plan.the-variants.{Nothing, Children, Coerced, Arguments, Test, Arm, Addition, Class}
 
 -- The effect list of a node by its plan.
 abbrev pub planned : Plan → Settings → Tree → List ℕ
@@ -30,6 +32,8 @@ planned Nothing s t = []
 planned (Children when) s t = effectsOf s (trees (t .kids)) ++ itselfIf when t
 planned Coerced s t = concatMap (λ c. effects s c ++ coercion c) (trees (t .kids))
 planned Arguments s t = effectsOf s (drop 1 (trees (t .kids)))
+planned Test s t = effectsOf s (testOf (trees (t .kids)))
+planned (Arm when) s t = effectsOf s (testOf (trees (t .kids))) ++ effectsOf s (cond when (consequentOf (trees (t .kids))) (alternateOf (trees (t .kids))))
 planned Addition s t = effectsOf s (trees (t .kids)) ++ ofTwo (additionEffect t) (itselfIf (flagged t) t) (trees (t .kids))
 planned Class s t =
     effectsOf s (heritage t)
@@ -42,6 +46,8 @@ HasChildren Nothing t = Unit {0}
 HasChildren (Children when) t = Unit {0}
 HasChildren Coerced t = Unit {0}
 HasChildren Arguments t = 1 ≤ count (t .kids)
+HasChildren Test t = 1 ≤ count (t .kids)
+HasChildren (Arm when) t = count (t .kids) ≡ 3
 HasChildren Addition t = (t .head .kind ≡ kind.binary) × (t .head .sub ≡ 2)
 HasChildren Class t = t .head .kind ≡ kind.class
 
@@ -52,9 +58,12 @@ pub record Planned (s : Settings) (t : Tree) (p : Plan) : Type 0 where
 pub record Plans (b : List ℕ) (i : ℕ) (s : Settings) (p : Plan) : Type 0 where
   pub by : (t : Tree) → Node b i t → nodeOk (t .head) (t .kids) ≡ true → Planned s t p
 
--- The same of a node of one kind.
-pub record PlansOf (k : ℕ) (b : List ℕ) (i : ℕ) (s : Settings) (p : Plan) : Type 0 where
-  pub by : (t : Tree) → Node b i t → nodeOk (t .head) (t .kids) ≡ true → t .head .kind ≡ k → Planned s t p
+-- The same of a node of one kind, whatever the settings; and of a logical, whatever their byte.
+pub record PlansOf (k : ℕ) (b : List ℕ) (i : ℕ) (p : Plan) : Type 0 where
+  pub by : (s : Settings) (t : Tree) → Node b i t → nodeOk (t .head) (t .kids) ≡ true → t .head .kind ≡ k → Planned s t p
+
+pub record PlansLogical (b : List ℕ) (i : ℕ) (places : List ℕ) (p : Plan) : Type 0 where
+  pub by : (byte : ℕ) (t : Tree) → Node b i t → nodeOk (t .head) (t .kids) ≡ true → t .head .kind ≡ kind.logical → Planned (settingsGiven places byte) t p
 
 two-evaluated : (s : Settings) (f : Tree → Tree → List ℕ) (other : List ℕ) (xs : List Tree)
     → ofTwo (λ l r. f (l .tree) (r .tree)) other (map (evaluated s) xs) ≡ ofTwo f other xs
@@ -100,6 +109,22 @@ module _ (s : Settings) (t : Tree) where
 
   arguments-is : childrenInOrder (drop 1 (map (evaluated s) ts)) ≡ effectsOf s (drop 1 ts)
   arguments-is = rw (drop-map (evaluated s)) (inOrder-is s (drop 1 ts))
+
+  -- The test, and what follows it.
+  test-is : childrenInOrder (testOf (map (evaluated s) ts)) ≡ effectsOf s (testOf ts)
+  test-is = rw (take-map (evaluated s)) (inOrder-is s (testOf ts))
+
+  arms-are : childrenInOrder (armsOf (map (evaluated s) ts)) ≡ effectsOf s (armsOf ts)
+  arms-are = arguments-is
+
+  arm-is : (when : Bool)
+      → cond when (childrenInOrder (consequentOf (map (evaluated s) ts))) (childrenInOrder (alternateOf (map (evaluated s) ts)))
+      ≡ effectsOf s (cond when (consequentOf ts) (alternateOf ts))
+  arm-is true = rw (drop-map (evaluated s), take-map (evaluated s)) (inOrder-is s (consequentOf ts))
+  arm-is false = rw (drop-map (evaluated s), drop-map (evaluated s)) (inOrder-is s (alternateOf ts))
+
+  both-are : effectsOf s (testOf ts) ++ effectsOf s (armsOf ts) ≡ effectsOf s ts
+  both-are = sym (effectsOf-append s (testOf ts) (armsOf ts)) ∙ ap (effectsOf s) (take-append-drop 1 ts)
 
   -- A class by the parts of its elements.
   class-parts : effectsBy Handler.class s t (map (evaluated s) ts) ≡ planned Class s t
@@ -219,11 +244,59 @@ module _ (s : Settings) (t : Tree) where
     unfolding handler
     plan-class e = record { is = own s t Handler.class (rw (sym ek ∙ e)) ∙ class-parts; has = sym ek ∙ e }
 
+    -- Logical nodes, by their sub u.
+    module _ (w : nodeOk (t .head) (t .kids) ≡ true) (e : k ≡ kind.logical) (u : ℕ) (eu : u ≡ t .head .sub) where
+      logical-handled : (h : Handler) → handler (bare kind.logical u) ≡ h → handler (t .head) ≡ h
+      unfolding handler
+      logical-handled h x = rw (sym ek ∙ e, ← eu) x
+
+      some-child : 1 ≤ count (t .kids)
+      unfolding childCountOk
+      some-child =
+          let c : childCountOk (t .head) (count (t .kids)) ≡ true = node-parts (t .head) (t .kids) w .counted in
+          let d : eqb (count (t .kids)) 2 ≡ true = rw (sym ek ∙ e) at c in
+          omega (arith, eqb-true (count (t .kids)) 2 d)
+
+      both-run : (h : Handler) → handler (t .head) ≡ h → effectsBy h s t (map (evaluated s) ts) ≡ childrenInOrder (testOf (map (evaluated s) ts)) ++ childrenInOrder (armsOf (map (evaluated s) ts)) → Planned s t (Children false)
+      both-run h x y = record { is = own s t h x ∙ y ∙ ap₂ (_++_) test-is arms-are ∙ both-are ∙ sym (append-nil (effectsOf s ts)); has = tt }
+
+      test-runs : (h : Handler) → handler (t .head) ≡ h → effectsBy h s t (map (evaluated s) ts) ≡ childrenInOrder (testOf (map (evaluated s) ts)) ++ [] → Planned s t Test
+      test-runs h x y = record { is = own s t h x ∙ y ∙ append-nil (childrenInOrder (testOf (map (evaluated s) ts))) ∙ test-is; has = some-child }
+
+      module _ (x : u ≡ 1) where
+        pub plan-and-yes : testIsYes s t ≡ true → Planned s t (Children false)
+        unfolding handler
+        plan-and-yes y = both-run Handler.logicalAnd (logical-handled Handler.logicalAnd (rw x)) (rw y)
+
+        pub plan-and-no : testIsYes s t ≡ false → Planned s t Test
+        unfolding handler
+        plan-and-no y = test-runs Handler.logicalAnd (logical-handled Handler.logicalAnd (rw x)) (rw y)
+
+      module _ (x : u ≡ 1 → ⊥) where
+        pub plan-or-yes : testIsYes s t ≡ true → Planned s t Test
+        unfolding handler
+        plan-or-yes y = test-runs Handler.logicalOr (logical-handled Handler.logicalOr (rw (ne-eqb u 1 x))) (rw y)
+
+        pub plan-or-no : testIsYes s t ≡ false → Planned s t (Children false)
+        unfolding handler
+        plan-or-no y = both-run Handler.logicalOr (logical-handled Handler.logicalOr (rw (ne-eqb u 1 x))) (rw y)
+
+    pub plan-conditional : nodeOk (t .head) (t .kids) ≡ true → k ≡ kind.conditional → {b : Bool} → b ≡ testIsYes s t → Planned s t (Arm b)
+    unfolding handler childCountOk
+    plan-conditional w e {b} y =
+        let c : childCountOk (t .head) (count (t .kids)) ≡ true = node-parts (t .head) (t .kids) w .counted in
+        let d : eqb (count (t .kids)) 3 ≡ true = rw (sym ek ∙ e) at c in
+        record {
+          is = own s t Handler.conditional (rw (sym ek ∙ e)) ∙ ap₂ (_++_) test-is (rw (← y) (arm-is b));
+          has = eqb-true (count (t .kids)) 3 d;
+        }
+
     -- What is neither passed nor told apart above.
     pub plan-other : kind.isLeaf k ≡ false → (k ≡ kind.this → ⊥) → (k ≡ kind.elision → ⊥) → (k ≡ kind.spread → ⊥) → (k ≡ kind.template → ⊥)
-        → (k ≡ kind.unary → ⊥) → (k ≡ kind.binary → ⊥) → (k ≡ kind.call → ⊥) → (k ≡ kind.new → ⊥) → (k ≡ kind.class → ⊥) → Planned s t (Children false)
+        → (k ≡ kind.unary → ⊥) → (k ≡ kind.binary → ⊥) → (k ≡ kind.call → ⊥) → (k ≡ kind.new → ⊥) → (k ≡ kind.class → ⊥)
+        → (k ≡ kind.logical → ⊥) → (k ≡ kind.conditional → ⊥) → Planned s t (Children false)
     unfolding handler
-    plan-other l a b c d e f g h i =
+    plan-other l a b c d e f g h i m n =
         let e′ : handler (t .head) ≡ others k =
         rw (
           ← ek,
@@ -237,10 +310,20 @@ module _ (s : Settings) (t : Tree) where
           ne-eqb k kind.call g,
           ne-eqb k kind.new h,
           ne-eqb k kind.class i,
+          ne-eqb k kind.logical m,
+          ne-eqb k kind.conditional n,
         ) in
         in-order (others k) e′ (others-in-order s t (map (evaluated s) ts) k)
 
--- The derived setting, as the code reads it.
-pub derived-is : (n : ℕ) → eqb (n / 4 % 2) 1 ≡ derived (record { byte = n })
+-- What does not read the places that count as yes: the derived setting, as the code reads it, and purity.
+pub derived-is : (places : List ℕ) (n : ℕ) → eqb (n / 4 % 2) 1 ≡ derived (settingsGiven places n)
 unfolding derived
-derived-is n = refl
+derived-is places n = refl
+
+pub pure-call-given : (places : List ℕ) (n : ℕ) (t : Tree) → pureCall (settingsGiven places n) t ≡ pureCall (settingsWith n) t
+unfolding pureCall pureNew annotations listed
+pure-call-given places n t = refl
+
+pub pure-new-given : (places : List ℕ) (n : ℕ) (t : Tree) → pureNew (settingsGiven places n) t ≡ pureNew (settingsWith n) t
+unfolding pureNew annotations listed
+pure-new-given places n t = refl

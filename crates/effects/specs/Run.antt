@@ -19,18 +19,18 @@ use Rattle.tree.specs.Accepted.{passed, counted-parts, counted-room, Accepted, 
 use Rattle.file.specs.Answer as check
 use Rattle.rules.specs.Effects.{effects}
 use Rattle.rules.specs.Theorems.{few-effects}
-use Rattle.readings.specs.Node.{settingsWith}
+use Rattle.readings.specs.Node.{settingsGiven}
 use Rattle.effects.specs.Listing.{InOrder, GivenTree, ListedTree}
-use Rattle.effects.specs.Answer.{number, effectList, Answers}
+use Rattle.effects.specs.Answer.{number, effectListGiven, AnswersGiven}
 use Rattle.effects.specs.declared.Listed.the-variants.{Refused, Count}
 use Rattle.tree.specs.Kind as kind
 use Rattle.readings.specs.Input.{Input}
 
-pub refused-file : (s : List ℕ) (n : ℕ) {old : List ℕ} → check.refusedBy n ≡ check.checked listEffectsLimits s → Answers s old old (Refused n)
+pub refused-file : (s : List ℕ) (n : ℕ) {places old : List ℕ} → check.refusedBy n ≡ check.checked listEffectsLimits s → AnswersGiven places s old old (Refused n)
 unfolding number
-refused-file s n {old} e = go n (check.checked-refused listEffectsLimits s n e .0) (check.checked-refused listEffectsLimits s n e .1)
+refused-file s n {places} {old} e = go n (check.checked-refused listEffectsLimits s n e .0) (check.checked-refused listEffectsLimits s n e .1)
   where
-    go : (m : ℕ) → refusal listEffectsLimits s ≡ m → (m ≡ 0 → ⊥) → Answers s old old (Refused m)
+    go : (m : ℕ) → refusal listEffectsLimits s ≡ m → (m ≡ 0 → ⊥) → AnswersGiven places s old old (Refused m)
     go zero r z = absurd (z refl)
     go (suc m) r z = record { answer = rw r; entries = rw r }
 
@@ -48,9 +48,9 @@ module _ (s : List ℕ) (st n : ℕ) (e : check.acceptedWith st n ≡ check.chec
   pub count-few : n ≤ 3999
   count-few = omega (arith, is-count, counted-parts (listEffectsLimits .records) s (passed listEffectsLimits s is-zero .counted) .few)
 
-  pub refused-room : {old : List ℕ} → length old < 2 * n → Answers s old old (Refused 10)
+  pub refused-room : {places old : List ℕ} → length old < 2 * n → AnswersGiven places s old old (Refused 10)
   unfolding number
-  refused-room {old} l =
+  refused-room {places} {old} l =
       let x : ltb (length old) (2 * countOf s) ≡ true = lt-ltb (length old) (2 * countOf s) (omega (arith, is-count)) in
       record { answer = rw (is-zero, x); entries = rw (is-zero, x) }
 
@@ -81,25 +81,26 @@ module _ (s : List ℕ) (st n : ℕ) (e : check.acceptedWith st n ≡ check.chec
     unfolding t
     root-size = A .sized ∙ sym is-count
 
-    root-list : effects (settingsWith st) t ≡ effectList s
-    unfolding t effectList
-    root-list = ap (λ (x : ℕ). effects (settingsWith x) (treeOf s)) is-settings
+    module _ (places : List ℕ) where
+      root-list : effects (settingsGiven places st) t ≡ effectListGiven places s
+      unfolding t effectListGiven
+      root-list = ap (λ (x : ℕ). effects (settingsGiven places x) (treeOf s)) is-settings
 
-    pub root-given : (room : ℕ) → 2 * n ≤ room → GivenTree s 0 n 65 (settingsWith st) InOrder 0 room
-    root-given room l = record {
-      tree = t;
-      input = root-input;
-      fits = omega (arith, few-effects (settingsWith st) t, root-size);
-    }
+      pub root-given : (room : ℕ) → 2 * n ≤ room → GivenTree s 0 n 65 (settingsGiven places st) InOrder 0 room
+      root-given room l = record {
+        tree = t;
+        input = root-input;
+        fits = omega (arith, few-effects (settingsGiven places st) t, root-size);
+      }
 
-    pub counted : {old new : List ℕ} {r : ℕ} → 2 * n ≤ length old → ListedTree s 0 n 65 (settingsWith st) InOrder old new 0 r → Answers s old new (Count r)
-    unfolding number
-    counted {old} {new} {r} l a =
-        let w = a .by t root-input in
-        let x : ltb (length old) (2 * countOf s) ≡ false = le-ltb (length old) (2 * countOf s) (omega (arith, is-count)) in
-        let m : r ≡ length (effectList s) = w .ends ∙ zero-add (length (effects (settingsWith st) t)) ∙ ap length root-list in
-        let fits : length (effectList s) ≤ length old = omega (arith, few-effects (settingsWith st) t, root-size, ap length root-list) in
-        record {
-          answer = rw (is-zero, x, m);
-          entries = rw (is-zero, x) (wrote-front (wrote-as w root-list) fits);
-        }
+      pub counted : {old new : List ℕ} {r : ℕ} → 2 * n ≤ length old → ListedTree s 0 n 65 (settingsGiven places st) InOrder old new 0 r → AnswersGiven places s old new (Count r)
+      unfolding number
+      counted {old} {new} {r} l a =
+          let w = a .by t root-input in
+          let x : ltb (length old) (2 * countOf s) ≡ false = le-ltb (length old) (2 * countOf s) (omega (arith, is-count)) in
+          let m : r ≡ length (effectListGiven places s) = w .ends ∙ zero-add (length (effects (settingsGiven places st) t)) ∙ ap length root-list in
+          let fits : length (effectListGiven places s) ≤ length old = omega (arith, few-effects (settingsGiven places st) t, root-size, ap length root-list) in
+          record {
+            answer = rw (is-zero, x, m);
+            entries = rw (is-zero, x) (wrote-front (wrote-as w root-list) fits);
+          }

@@ -4,9 +4,9 @@ use crate::entry;
 use crate::plan;
 use crate::plan::Plan;
 ghost use lib.ListN.{length};
-ghost use Rattle.readings.specs.Node.{settingsWith};
+ghost use Rattle.readings.specs.Node.{settingsGiven};
 ghost use Rattle.effects.specs.Listing.{InOrder, of, GivenChildren, ListedChildren, GivenTree, ListedTree};
-ghost use Rattle.effects.specs.Expression.{GivenExpression};
+ghost use Rattle.effects.specs.Expression.{GivenExpression, GivenPlanned};
 ghost use Rattle.effects.specs.Sum.{ListedSide, GivenSum};
 ghost use Rattle.effects.specs.Class.{GivenClass};
 
@@ -33,11 +33,12 @@ pub fn list_children(
     size: usize,
     depth: usize,
     settings: u8,
+    yes: &[u32],
     out: &mut [u64],
     pos: usize,
 ) -> usize
-    requires { ⌜ GivenChildren (now src) at size depth (settingsWith settings) InOrder pos (length (now out)) ⌝ }
-    ensures { λ r. ⌜ ListedChildren (now (src .entry)) at size depth (settingsWith settings) InOrder (now (out .entry)) (now (out .exit)) pos r ⌝ }
+    requires { ⌜ GivenChildren (now src) at size depth (settingsGiven (now yes) settings) InOrder pos (length (now out)) ⌝ }
+    ensures { λ r. ⌜ ListedChildren (now (src .entry)) at size depth (settingsGiven (now (yes .entry)) settings) InOrder (now (out .entry)) (now (out .exit)) pos r ⌝ }
 {
     let end = at + size;
     let mut p = at;
@@ -49,7 +50,7 @@ pub fn list_children(
             p += 1;
         } else {
             let subtree = fields::subtree_at(src, p);
-            next = list_expr(src, p, subtree, depth, settings, out, next);
+            next = list_expr(src, p, subtree, depth, settings, yes, out, next);
             p += subtree;
         }
     }
@@ -64,18 +65,19 @@ fn list_parts(
     part: Part,
     depth: usize,
     settings: u8,
+    yes: &[u32],
     out: &mut [u64],
     pos: usize,
 ) -> usize
-    requires { ⌜ GivenChildren (now src) at size depth (settingsWith settings) (of part) pos (length (now out)) ⌝ }
-    ensures { λ r. ⌜ ListedChildren (now (src .entry)) at size depth (settingsWith settings) (of part) (now (out .entry)) (now (out .exit)) pos r ⌝ }
+    requires { ⌜ GivenChildren (now src) at size depth (settingsGiven (now yes) settings) (of part) pos (length (now out)) ⌝ }
+    ensures { λ r. ⌜ ListedChildren (now (src .entry)) at size depth (settingsGiven (now (yes .entry)) settings) (of part) (now (out .entry)) (now (out .exit)) pos r ⌝ }
 {
     let end = at + size;
     let mut p = at;
     let mut next = pos;
     while p < end {
         let subtree = fields::subtree_at(src, p);
-        next = list_part(src, p, subtree, part, depth, settings, out, next);
+        next = list_part(src, p, subtree, part, depth, settings, yes, out, next);
         p += subtree;
     }
     next
@@ -89,15 +91,16 @@ fn list_part(
     part: Part,
     depth: usize,
     settings: u8,
+    yes: &[u32],
     out: &mut [u64],
     pos: usize,
 ) -> usize
-    requires { ⌜ GivenTree (now src) at size depth (settingsWith settings) (of part) pos (length (now out)) ⌝ }
-    ensures { λ r. ⌜ ListedTree (now (src .entry)) at size depth (settingsWith settings) (of part) (now (out .entry)) (now (out .exit)) pos r ⌝ }
+    requires { ⌜ GivenTree (now src) at size depth (settingsGiven (now yes) settings) (of part) pos (length (now out)) ⌝ }
+    ensures { λ r. ⌜ ListedTree (now (src .entry)) at size depth (settingsGiven (now (yes .entry)) settings) (of part) (now (out .entry)) (now (out .exit)) pos r ⌝ }
 {
     match part {
         Part::Coerced => {
-            let next = list_children(src, at, size, depth, settings, out, pos);
+            let next = list_children(src, at, size, depth, settings, yes, out, pos);
             let symbol = readings::possible_symbol_at(src, at);
             entry::list_if(src, at, symbol, 1, out, next)
         }
@@ -105,9 +108,9 @@ fn list_part(
             let key = readings::first_size(src, at, fields::sub_at(src, at) / 16 % 2);
             let first = at + 1;
             let below = depth - 1;
-            list_children(src, first, key, below, settings, out, pos)
+            list_children(src, first, key, below, settings, yes, out, pos)
         }
-        Part::Static => list_static(src, at, size, depth, settings, out, pos),
+        Part::Static => list_static(src, at, size, depth, settings, yes, out, pos),
     }
 }
 
@@ -118,11 +121,12 @@ fn list_static(
     size: usize,
     depth: usize,
     settings: u8,
+    yes: &[u32],
     out: &mut [u64],
     pos: usize,
 ) -> usize
-    requires { ⌜ GivenTree (now src) at size depth (settingsWith settings) (of Part.Static) pos (length (now out)) ⌝ }
-    ensures { λ r. ⌜ ListedTree (now (src .entry)) at size depth (settingsWith settings) (of Part.Static) (now (out .entry)) (now (out .exit)) pos r ⌝ }
+    requires { ⌜ GivenTree (now src) at size depth (settingsGiven (now yes) settings) (of Part.Static) pos (length (now out)) ⌝ }
+    ensures { λ r. ⌜ ListedTree (now (src .entry)) at size depth (settingsGiven (now (yes .entry)) settings) (of Part.Static) (now (out .entry)) (now (out .exit)) pos r ⌝ }
 {
     let block = readings::nonempty_static_block_at(src, at);
     if readings::has_static_value_at(src, at) {
@@ -130,7 +134,7 @@ fn list_static(
         let value = at + 1 + key;
         let left = size - 1 - key;
         let below = depth - 1;
-        let next = list_children(src, value, left, below, settings, out, pos);
+        let next = list_children(src, value, left, below, settings, yes, out, pos);
         return entry::list_if(src, at, block, 0, out, next);
     }
     entry::list_if(src, at, block, 0, out, pos)
@@ -143,35 +147,89 @@ fn list_expr(
     size: usize,
     depth: usize,
     settings: u8,
+    yes: &[u32],
     out: &mut [u64],
     pos: usize,
 ) -> usize
-    requires { ⌜ GivenExpression (now src) at size depth (settingsWith settings) pos (length (now out)) ⌝ }
-    ensures { λ r. ⌜ ListedTree (now (src .entry)) at size depth (settingsWith settings) InOrder (now (out .entry)) (now (out .exit)) pos r ⌝ }
+    requires { ⌜ GivenExpression (now src) at size depth (settingsGiven (now yes) settings) pos (length (now out)) ⌝ }
+    ensures { λ r. ⌜ ListedTree (now (src .entry)) at size depth (settingsGiven (now (yes .entry)) settings) InOrder (now (out .entry)) (now (out .exit)) pos r ⌝ }
 {
-    let plan = plan::plan_of(src, at, settings);
+    let plan = plan::plan_of(src, at, settings, yes);
     let first = at + 1;
     let rest = size - 1;
     let below = depth - 1;
     match plan {
         Plan::Nothing => pos,
         Plan::Children(when) => {
-            let next = list_children(src, first, rest, below, settings, out, pos);
+            let next = list_children(src, first, rest, below, settings, yes, out, pos);
             entry::list_if(src, at, when, 0, out, next)
         }
-        Plan::Coerced => list_parts(src, first, rest, Part::Coerced, below, settings, out, pos),
-        Plan::Arguments => {
-            let callee = readings::first_size(src, at, 1);
-            let start = first + callee;
-            let left = rest - callee;
-            list_children(src, start, left, below, settings, out, pos)
+        Plan::Coerced => {
+            let part = Part::Coerced;
+            list_parts(src, first, rest, part, below, settings, yes, out, pos)
         }
+        Plan::Arguments => list_arguments(src, at, size, depth, settings, yes, out, pos),
+        Plan::Test => {
+            let test = readings::first_size(src, at, 1);
+            list_children(src, first, test, below, settings, yes, out, pos)
+        }
+        Plan::Arm(when) => list_arm(src, at, size, when, depth, settings, yes, out, pos),
         Plan::Addition => {
-            let sum = list_addition(src, at, size, depth, settings, out, pos);
+            let sum = list_addition(src, at, size, depth, settings, yes, out, pos);
             sum.next
         }
-        Plan::Class => list_class(src, at, size, depth, settings, out, pos),
+        Plan::Class => list_class(src, at, size, depth, settings, yes, out, pos),
     }
+}
+
+// What a pure call or new is given.
+fn list_arguments(
+    src: &[u8],
+    at: usize,
+    size: usize,
+    depth: usize,
+    settings: u8,
+    yes: &[u32],
+    out: &mut [u64],
+    pos: usize,
+) -> usize
+    requires { ⌜ GivenPlanned (now src) at size depth (settingsGiven (now yes) settings) Plan.Arguments pos (length (now out)) ⌝ }
+    ensures { λ r. ⌜ ListedTree (now (src .entry)) at size depth (settingsGiven (now (yes .entry)) settings) InOrder (now (out .entry)) (now (out .exit)) pos r ⌝ }
+{
+    let callee = readings::first_size(src, at, 1);
+    let start = at + 1 + callee;
+    let left = size - 1 - callee;
+    let below = depth - 1;
+    list_children(src, start, left, below, settings, yes, out, pos)
+}
+
+// The test of a conditional, and then the consequent if the test counts as yes, or the alternate.
+fn list_arm(
+    src: &[u8],
+    at: usize,
+    size: usize,
+    when: bool,
+    depth: usize,
+    settings: u8,
+    yes: &[u32],
+    out: &mut [u64],
+    pos: usize,
+) -> usize
+    requires { ⌜ GivenPlanned (now src) at size depth (settingsGiven (now yes) settings) (Plan.Arm when) pos (length (now out)) ⌝ }
+    ensures { λ r. ⌜ ListedTree (now (src .entry)) at size depth (settingsGiven (now (yes .entry)) settings) InOrder (now (out .entry)) (now (out .exit)) pos r ⌝ }
+{
+    let below = depth - 1;
+    let first = at + 1;
+    let test = fields::subtree_at(src, first);
+    let next = list_children(src, first, test, below, settings, yes, out, pos);
+    let second = first + test;
+    let consequent = fields::subtree_at(src, second);
+    if when {
+        return list_children(src, second, consequent, below, settings, yes, out, next);
+    }
+    let third = second + consequent;
+    let alternate = size - 1 - test - consequent;
+    list_children(src, third, alternate, below, settings, yes, out, next)
 }
 
 // The left side of an addition: the string answer of an addition comes with its listing.
@@ -181,16 +239,17 @@ fn list_left(
     size: usize,
     depth: usize,
     settings: u8,
+    yes: &[u32],
     out: &mut [u64],
     pos: usize,
 ) -> Side
-    requires { ⌜ GivenTree (now src) at size depth (settingsWith settings) InOrder pos (length (now out)) ⌝ }
-    ensures { λ r. ⌜ ListedSide (now (src .entry)) at size depth (settingsWith settings) (now (out .entry)) (now (out .exit)) pos (r .next) (r .string) ⌝ }
+    requires { ⌜ GivenTree (now src) at size depth (settingsGiven (now yes) settings) InOrder pos (length (now out)) ⌝ }
+    ensures { λ r. ⌜ ListedSide (now (src .entry)) at size depth (settingsGiven (now (yes .entry)) settings) (now (out .entry)) (now (out .exit)) pos (r .next) (r .string) ⌝ }
 {
     if readings::is_addition(src, at) {
-        return list_addition(src, at, size, depth, settings, out, pos);
+        return list_addition(src, at, size, depth, settings, yes, out, pos);
     }
-    let next = list_children(src, at, size, depth, settings, out, pos);
+    let next = list_children(src, at, size, depth, settings, yes, out, pos);
     let string = readings::string_fact_at(src, at);
     Side { next, string }
 }
@@ -201,20 +260,21 @@ fn list_addition(
     size: usize,
     depth: usize,
     settings: u8,
+    yes: &[u32],
     out: &mut [u64],
     pos: usize,
 ) -> Side
-    requires { ⌜ GivenSum (now src) at size depth (settingsWith settings) pos (length (now out)) ⌝ }
-    ensures { λ r. ⌜ ListedSide (now (src .entry)) at size depth (settingsWith settings) (now (out .entry)) (now (out .exit)) pos (r .next) (r .string) ⌝ }
+    requires { ⌜ GivenSum (now src) at size depth (settingsGiven (now yes) settings) pos (length (now out)) ⌝ }
+    ensures { λ r. ⌜ ListedSide (now (src .entry)) at size depth (settingsGiven (now (yes .entry)) settings) (now (out .entry)) (now (out .exit)) pos (r .next) (r .string) ⌝ }
 {
     let below = depth - 1;
     let left_size = fields::subtree_at(src, at + 1);
-    let left = list_left(src, at + 1, left_size, below, settings, out, pos);
+    let left = list_left(src, at + 1, left_size, below, settings, yes, out, pos);
     let mid = left.next;
     let left_string = left.string;
     let right = at + 1 + left_size;
     let right_size = fields::subtree_at(src, right);
-    let sides = list_children(src, right, right_size, below, settings, out, mid);
+    let sides = list_children(src, right, right_size, below, settings, yes, out, mid);
     if left_string {
         let symbol = readings::possible_symbol_at(src, right);
         let next = entry::list_if(src, right, symbol, 1, out, sides);
@@ -240,20 +300,31 @@ fn list_class(
     size: usize,
     depth: usize,
     settings: u8,
+    yes: &[u32],
     out: &mut [u64],
     pos: usize,
 ) -> usize
-    requires { ⌜ GivenClass (now src) at size depth (settingsWith settings) pos (length (now out)) ⌝ }
-    ensures { λ r. ⌜ ListedTree (now (src .entry)) at size depth (settingsWith settings) InOrder (now (out .entry)) (now (out .exit)) pos r ⌝ }
+    requires { ⌜ GivenClass (now src) at size depth (settingsGiven (now yes) settings) pos (length (now out)) ⌝ }
+    ensures { λ r. ⌜ ListedTree (now (src .entry)) at size depth (settingsGiven (now (yes .entry)) settings) InOrder (now (out .entry)) (now (out .exit)) pos r ⌝ }
 {
     let base = readings::first_size(src, at, fields::sub_at(src, at) / 2 % 2);
     let first = at + 1;
     let below = depth - 1;
-    let next = list_children(src, first, base, below, settings, out, pos);
+    let next = list_children(src, first, base, below, settings, yes, out, pos);
     let is_effect = readings::class_is_effect(src, at);
     let own = entry::list_if(src, at, is_effect, 0, out, next);
     let from = first + base;
     let left = size - 1 - base;
-    let keys = list_parts(src, from, left, Part::Key, below, settings, out, own);
-    list_parts(src, from, left, Part::Static, below, settings, out, keys)
+    let keys = list_parts(src, from, left, Part::Key, below, settings, yes, out, own);
+    list_parts(
+        src,
+        from,
+        left,
+        Part::Static,
+        below,
+        settings,
+        yes,
+        out,
+        keys,
+    )
 }

@@ -5,9 +5,9 @@ ghost use mathlib.Core.Bool.{true, false};
 ghost use Prim.Native.Nat.{_+_, _≤_};
 ghost use Rattle.tree.specs.Room.{recordsIn};
 ghost use Rattle.tree.specs.Fields.{headAt};
-ghost use Rattle.readings.specs.Node.{SomeNode, settingsWith};
-ghost use Rattle.effects.specs.Plan.{Plans, PlansOf};
-ghost use Rattle.effects.specs.Passed.{isPassed, Passes};
+ghost use Rattle.readings.specs.Node.{SomeNode, settingsGiven};
+ghost use Rattle.effects.specs.Plan.{Plans, PlansOf, PlansLogical};
+ghost use Rattle.effects.specs.Passed.{isPassed, PassesWith};
 ghost use Rattle.tree.specs.Kind.{unary, binary};
 
 pub enum Plan {
@@ -18,13 +18,17 @@ pub enum Plan {
     Coerced,
     // the children but the first
     Arguments,
+    // the first child
+    Test,
+    // the first child, and then the second where the value says so, or the third
+    Arm(bool),
     Addition,
     Class,
 }
 
-fn plan_unary(src: &[u8], at: usize, settings: u8) -> Plan
+fn plan_unary(src: &[u8], at: usize) -> Plan
     requires { ⌜ SomeNode (now src) at ⌝ }
-    ensures { λ r. ⌜ PlansOf unary (now (src .entry)) at (settingsWith settings) r ⌝ }
+    ensures { λ r. ⌜ PlansOf unary (now (src .entry)) at r ⌝ }
 {
     let sub = fields::sub_at(src, at);
     if sub == 1 {
@@ -42,9 +46,9 @@ fn plan_unary(src: &[u8], at: usize, settings: u8) -> Plan
     Plan::Children(readings::flagged_at(src, at))
 }
 
-fn plan_binary(src: &[u8], at: usize, settings: u8) -> Plan
+fn plan_binary(src: &[u8], at: usize) -> Plan
     requires { ⌜ SomeNode (now src) at ⌝ }
-    ensures { λ r. ⌜ PlansOf binary (now (src .entry)) at (settingsWith settings) r ⌝ }
+    ensures { λ r. ⌜ PlansOf binary (now (src .entry)) at r ⌝ }
 {
     let sub = fields::sub_at(src, at);
     if sub == 1 {
@@ -54,6 +58,24 @@ fn plan_binary(src: &[u8], at: usize, settings: u8) -> Plan
         return Plan::Addition;
     }
     Plan::Children(readings::flagged_at(src, at))
+}
+
+// "its right side running on yes for and, on no for or"
+fn plan_logical(src: &[u8], at: usize, yes: &[u32]) -> Plan
+    requires { ⌜ SomeNode (now src) at ⌝ }
+    ensures { λ r. ⌜ PlansLogical (now (src .entry)) at (now (yes .entry)) r ⌝ }
+{
+    let is_yes = readings::test_is_yes(src, at, yes);
+    if fields::sub_at(src, at) == 1 {
+        if is_yes {
+            return Plan::Children(false);
+        }
+        return Plan::Test;
+    }
+    if is_yes {
+        return Plan::Test;
+    }
+    Plan::Children(false)
 }
 
 // A bit for each kind whose own entry, if there is one, comes before what is listed under it: leaves, this, elision, array, object,
@@ -80,7 +102,7 @@ pub fn is_passed(src: &[u8], at: usize) -> bool
 // Whether a node that is passed is listed itself. By numbers rather than a test by kind, which would often be mispredicted.
 pub fn passed_itself(src: &[u8], at: usize, settings: u8) -> bool
     requires { ⌜ (at + 1 ≤ recordsIn (now src)) × (isPassed (headAt (now src) at .kind) ≡ true) ⌝ }
-    ensures { λ r. ⌜ Passes (now (src .entry)) at (settingsWith settings) r ⌝ }
+    ensures { λ r. ⌜ PassesWith (now (src .entry)) at settings r ⌝ }
 {
     let flagged = if readings::flagged_at(src, at) {
         LEAVES
@@ -96,15 +118,15 @@ pub fn passed_itself(src: &[u8], at: usize, settings: u8) -> bool
 }
 
 // The plan of a node that is not passed.
-pub fn plan_of(src: &[u8], at: usize, settings: u8) -> Plan
+pub fn plan_of(src: &[u8], at: usize, settings: u8, yes: &[u32]) -> Plan
     requires { ⌜ SomeNode (now src) at × (isPassed (headAt (now src) at .kind) ≡ false) ⌝ }
-    ensures { λ r. ⌜ Plans (now (src .entry)) at (settingsWith settings) r ⌝ }
+    ensures { λ r. ⌜ Plans (now (src .entry)) at (settingsGiven (now (yes .entry)) settings) r ⌝ }
 {
     match fields::kind_at(src, at) {
         kind::SPREAD => Plan::Children(readings::flagged_at(src, at)),
         kind::TEMPLATE => Plan::Coerced,
-        kind::UNARY => plan_unary(src, at, settings),
-        kind::BINARY => plan_binary(src, at, settings),
+        kind::UNARY => plan_unary(src, at),
+        kind::BINARY => plan_binary(src, at),
         kind::CALL => {
             if readings::pure_call(src, at, settings) {
                 return Plan::Arguments;
@@ -118,6 +140,8 @@ pub fn plan_of(src: &[u8], at: usize, settings: u8) -> Plan
             Plan::Children(readings::flagged_at(src, at))
         }
         kind::CLASS => Plan::Class,
+        kind::LOGICAL => plan_logical(src, at, yes),
+        kind::CONDITIONAL => Plan::Arm(readings::test_is_yes(src, at, yes)),
         _ => Plan::Children(false),
     }
 }

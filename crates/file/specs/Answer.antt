@@ -1,5 +1,6 @@
 -- What the check answers: document 01's number and values for every case.
 use mathlib.Core.Path.{_≡_, refl, sym, ap}
+use mathlib.Core.Bool.{Bool}
 use mathlib.Core.List.{List, [], _∷_}
 use Prim.Native.Nat.{ℕ, zero, suc}
 use native.Mathlib.Omega.{arith}
@@ -25,8 +26,8 @@ stated (Refused n) = refusedBy n
 stated (Accepted settings count) = acceptedWith settings count
 
 -- The limits that the check is handed.
-abbrev pub limitsOf : ℕ → ℕ → Limits
-limitsOf records depth = record { records = records; depth = depth }
+abbrev pub limitsOf : ℕ → ℕ → Bool → Limits
+limitsOf records depth logicals = record { records = records; depth = depth; logicals = logicals }
 
 -- What is stated of a file that is refused with a number, or with none.
 abbrev pub statedOf : ℕ → List ℕ → Stated Case

@@ -6,10 +6,10 @@ use Prim.Native.Nat.{ℕ, _<_, _≤_}
 use native.Mathlib.Omega.{arith}
 use Rattle.tree.specs.Tree.{one, levels, depth}
 use Rattle.tree.specs.Below.{allBelow}
-use Rattle.tree.specs.Record.{recordOk, included}
+use Rattle.tree.specs.Record.{recordOk, taken}
 use Rattle.tree.specs.Room.{recordsIn}
 use Rattle.tree.specs.Fields.{settingsOf, countOf, headAt}
-use Rattle.tree.specs.Refusal.{Limits, markOk, versionOk, settingsOk, countOk, recordsOk, allIncluded, shapeOk, treeOf, depthOk, refusal}
+use Rattle.tree.specs.Refusal.{Limits, markOk, versionOk, settingsOk, countOk, recordsOk, allTaken, shapeOk, treeOf, depthOk, refusal}
 use Rattle.tree.specs.Accepted.{Counted, counted-parts, counted-room, Rooted, rooted}
 use Rattle.file.specs.Answer.{refusedBy, acceptedWith, statedOf, checked}
 use Rattle.tree.specs.Walk.{Holds, Held}
@@ -66,22 +66,22 @@ module _ {limits : Limits} {s : List ℕ} {n : ℕ} (h : Headed limits s n) wher
     unfolding recordsOk
     recorded-all = rw (← h .isN) recorded
 
-    pub refused-6 : allBelow (λ i. included (headAt s i)) n ≡ false → refusedBy 6 ≡ checked limits s
-    unfolding refusal allIncluded
+    pub refused-6 : allBelow (λ i. taken (limits .logicals) (headAt s i)) n ≡ false → refusedBy 6 ≡ checked limits s
+    unfolding refusal allTaken
     refused-6 e = stated-as limits s 6 (rw (h .mark, h .version, h .settings, h .counted, recorded-all, ← h .isN, e))
 
-    module _ (inside : allBelow (λ i. included (headAt s i)) n ≡ true) where
-      included-all : allIncluded s ≡ true
-      unfolding allIncluded
-      included-all = rw (← h .isN) inside
+    module _ (inside : allBelow (λ i. taken (limits .logicals) (headAt s i)) n ≡ true) where
+      taken-all : allTaken (limits .logicals) s ≡ true
+      unfolding allTaken
+      taken-all = rw (← h .isN) inside
 
       pub refused-7 : shapeOk s ≡ false → refusedBy 7 ≡ checked limits s
       unfolding refusal
-      refused-7 e = stated-as limits s 7 (rw (h .mark, h .version, h .settings, h .counted, recorded-all, included-all, e))
+      refused-7 e = stated-as limits s 7 (rw (h .mark, h .version, h .settings, h .counted, recorded-all, taken-all, e))
 
       module _ (shape : shapeOk s ≡ true) where
-        root : Rooted s
-        root = rooted s (counted-n .some) recorded-all included-all shape
+        root : Rooted (limits .logicals) s
+        root = rooted (limits .logicals) s (counted-n .some) recorded-all taken-all shape
 
         holds : Holds s 0 n (one (treeOf s))
         holds = record { stands = root .stands; sized = omega (arith, h .isN, root .sized) }
@@ -98,9 +98,9 @@ module _ {limits : Limits} {s : List ℕ} {n : ℕ} (h : Headed limits s n) wher
 
           pub refused-8 : r ≡ false → refusedBy 8 ≡ checked limits s
           unfolding refusal
-          refused-8 e = stated-as limits s 8 (rw (h .mark, h .version, h .settings, h .counted, recorded-all, included-all, shape, depth-is, e))
+          refused-8 e = stated-as limits s 8 (rw (h .mark, h .version, h .settings, h .counted, recorded-all, taken-all, shape, depth-is, e))
 
           pub accepted-as : r ≡ true → acceptedWith (settingsOf s) n ≡ checked limits s
           unfolding refusal
           accepted-as e =
-              rw (h .isN) (stated-as limits s 0 (rw (h .mark, h .version, h .settings, h .counted, recorded-all, included-all, shape, depth-is, e)))
+              rw (h .isN) (stated-as limits s 0 (rw (h .mark, h .version, h .settings, h .counted, recorded-all, taken-all, shape, depth-is, e)))

@@ -23,11 +23,11 @@ const OBJECT_CHILDREN: usize = 0b1010_0000_0000;
 
 const CLASS_ELEMENTS: usize = 0b1000_0000_0000_0000_0000;
 
-// Two bits for each kind: the least number of children, and the most, 3 if there may be any number.
-const LEAST_CHILDREN: usize = 0b01_01_10_01_00_00_00_00_01_00_00_00_00_00_00_00_00_00;
+// Two bits for each kind: the least number of children, and the most; a most of 3 is any number, unless the least is 3 too.
+const LEAST_CHILDREN: usize = 0b11_10_00_00_01_01_10_01_00_00_00_00_01_00_00_00_00_00_00_00_00_00;
 
 const MOST_CHILDREN: usize =
-    0b11_11_11_11_11_11_11_11_11_11_11_11_11_11_11_11_10_01_11_11_11_11_01_00_11_00_00_00_00_00_00_11;
+    0b11_11_11_11_11_11_11_11_11_11_11_10_11_11_11_11_10_01_11_11_11_11_01_00_11_00_00_00_00_00_00_11;
 
 fn is_expression(kind: usize) -> bool
     ensures { λ r. ⌜ r ≡ isExpression kind ⌝ }
@@ -61,7 +61,7 @@ fn count_within(kind: usize, n: usize) -> bool
         if most != 3 {
             return false;
         }
-        return least_children(kind) <= n;
+        return least_children(kind) != 3;
     }
     least_children(kind) <= n
 }

@@ -9,14 +9,18 @@ ghost use Rattle.tree.specs.Refusal.{markOk, countOk};
 ghost use Rattle.tree.specs.Fields.{countOf};
 ghost use Rattle.file.specs.Answer.{limitsOf, stated, checked};
 
-// How many records and levels an operation takes; as definitions: `reduceLimits` and `listEffectsLimits`.
+// How many records and levels an operation takes, and whether logical nodes; as definitions: `reduceLimits` and `listEffectsLimits`.
 pub const REDUCE_RECORDS: usize = 2000;
 
 pub const REDUCE_DEPTH: usize = 64;
 
+pub const REDUCE_LOGICALS: bool = false;
+
 pub const LIST_EFFECTS_RECORDS: usize = 3999;
 
 pub const LIST_EFFECTS_DEPTH: usize = 65;
+
+pub const LIST_EFFECTS_LOGICALS: bool = true;
 
 pub enum Checked {
     // The number of the first refusal that applies.
@@ -53,9 +57,9 @@ fn count_ok(src: &[u8], n: usize, most: usize) -> bool
     src.len() == fields::file_length(src, n)
 }
 
-// Whether src is a tree file of at most so many records and levels.
-pub fn check(src: &[u8], records: usize, depth: usize) -> Checked
-    ensures { λ r. ⌜ stated r ≡ checked (limitsOf records depth) (now (src .entry)) ⌝ }
+// Whether src is a tree file of at most so many records and levels, with logical nodes or without.
+pub fn check(src: &[u8], records: usize, depth: usize, logicals: bool) -> Checked
+    ensures { λ r. ⌜ stated r ≡ checked (limitsOf records depth logicals) (now (src .entry)) ⌝ }
 {
     if !mark_ok(src) {
         return Checked::Refused(1);
@@ -74,7 +78,7 @@ pub fn check(src: &[u8], records: usize, depth: usize) -> Checked
     if !record::records_ok(src, n) {
         return Checked::Refused(5);
     }
-    if !record::all_included(src, n) {
+    if !record::all_taken(src, n, logicals) {
         return Checked::Refused(6);
     }
     if !children::shape_ok(src, n) {

@@ -5,7 +5,7 @@ ghost use Prim.Native.Nat.{_+_, _<_, _≤_};
 ghost use Rattle.tree.specs.Below.{allBelow};
 ghost use Rattle.tree.specs.Room.{recordsIn};
 ghost use Rattle.tree.specs.Fields.{headAt};
-ghost use Rattle.tree.specs.Record.{allowedFacts, pairsOk, factsOk, elementSubOk, subOk, recordOk, included};
+ghost use Rattle.tree.specs.Record.{allowedFacts, pairsOk, factsOk, elementSubOk, subOk, recordOk, taken};
 ghost use Rattle.file.specs.Facts.{allowedTable};
 ghost use Rattle.file.specs.Bounds.{leastSub, mostSub};
 
@@ -109,7 +109,7 @@ fn element_sub_ok(sub: usize) -> bool
 // A bit for each kind, and three bits for each: the least sub, and the most, but for class elements.
 const LEAST_SUB: usize = 0b1100_0000_0000_0000;
 
-const MOST_SUB: usize = 0o3_003_400_100_000_000_000;
+const MOST_SUB: usize = 0o203_003_400_100_000_000_000;
 
 fn least_sub(kind: usize) -> usize
     ensures { λ r. ⌜ r ≡ leastSub kind ⌝ }
@@ -165,18 +165,21 @@ fn record_ok(src: &[u8], i: usize, table: &[u8; 23]) -> bool
     false
 }
 
-fn included(src: &[u8], i: usize) -> bool
+fn taken(src: &[u8], i: usize, logicals: bool) -> bool
     requires { ⌜ i + 1 ≤ recordsIn (now src) ⌝ }
-    ensures { λ r. ⌜ r ≡ included (headAt (now (src .entry)) i) ⌝ }
+    ensures { λ r. ⌜ r ≡ taken logicals (headAt (now (src .entry)) i) ⌝ }
 {
     let kind = fields::kind_at(src, i);
     if kind < kind::LOGICAL {
         return true;
     }
-    if kind::ASSIGNMENT < kind {
-        return true;
+    if kind == kind::LOGICAL {
+        if fields::sub_at(src, i) == 0 {
+            return false;
+        }
+        return logicals;
     }
-    false
+    kind != kind::ASSIGNMENT
 }
 
 // Whether each of the first n records passes the test of refusal 5.
@@ -197,13 +200,13 @@ pub fn records_ok(src: &[u8], n: usize) -> bool
 }
 
 // Whether each of the first n records passes the test of refusal 6.
-pub fn all_included(src: &[u8], n: usize) -> bool
+pub fn all_taken(src: &[u8], n: usize, logicals: bool) -> bool
     requires { ⌜ n ≤ recordsIn (now src) ⌝ }
-    ensures { λ r. ⌜ r ≡ allBelow (λ i. included (headAt (now (src .entry)) i)) n ⌝ }
+    ensures { λ r. ⌜ r ≡ allBelow (λ i. taken logicals (headAt (now (src .entry)) i)) n ⌝ }
 {
     let mut i = 0;
     while i < n {
-        if included(src, i) {
+        if taken(src, i, logicals) {
             i += 1;
         } else {
             return false;

@@ -11,7 +11,7 @@ use Rattle.rules.specs.Facts.{flagged, ofIdentifier, pureNew, pureCall, hasSide
 use Rattle.rules.specs.Class.{keptClass}
 use Rattle.readings.specs.Node.{Node, Tells}
 use Rattle.handlers.specs.declared.outcome.Outcome.{Outcome}
-use Rattle.handlers.specs.declared.outcome.Outcome.the-variants.{Removable, Unchanged, Unwrapped, Rewritten, Arguments, Addition, Class}
+use Rattle.handlers.specs.declared.outcome.Outcome.the-variants.{Removable, Unchanged, Unwrapped, Rewritten, Arguments, Addition, Class, Conditional}
 use Rattle.handlers.specs.declared.outcome.Rewrite.the-variants.{Sequence, Array, Template, Object, Comparison}
 
 -- Removable exactly if the test fails, else unchanged.
@@ -47,6 +47,10 @@ ofObject t = cond (onlySpreads t) (staysIf (flaggedChild t)) (Rewritten Object)
 abbrev pub ofClass : Tree → Outcome
 ofClass t = cond (keptClass t) Unchanged Class
 
+-- 02, N1: "Unflagged is removable. Else both arms are reduced"
+abbrev pub ofConditional : Tree → Outcome
+ofConditional t = cond (flagged t) Conditional Removable
+
 abbrev pub chosen : Handler → Settings → Tree → Outcome
 chosen Handler.leaf s t = staysIf (flagged t)
 chosen Handler.this s t = staysIf (derived s)
@@ -63,6 +67,9 @@ chosen Handler.otherBinary s t = staysIf (flagged t)
 chosen Handler.call s t = ofCall s t
 chosen Handler.new s t = ofNew s t
 chosen Handler.class s t = ofClass t
+chosen Handler.conditional s t = ofConditional t
+chosen Handler.logicalAnd s t = Unchanged
+chosen Handler.logicalOr s t = Unchanged
 chosen Handler.elision s t = Removable
 chosen Handler.spread s t = staysIf (flagged t)
 chosen Handler.property s t = Unwrapped

@@ -20,7 +20,7 @@ use Rattle.handlers.specs.declared.outcome.Outcome.{Outcome}
 use Rattle.handlers.specs.declared.outcome.Outcome.the-variants.{Removable, Unchanged, Unwrapped, Rewritten}
 use Rattle.handlers.specs.declared.outcome.Rewrite.the-variants.{Sequence, Array, Comparison}
 use Rattle.handlers.specs.Outcome.{HandledAs, Handles}
-use Rattle.handlers.specs.Choice.{staysIf, chosen, always, ofTypeof, ofAddition, ofUnary, ofBinary, ofCall, ofNew, ofTemplate, ofObject, ofClass, Chooses}
+use Rattle.handlers.specs.Choice.{staysIf, chosen, always, ofTypeof, ofAddition, ofUnary, ofBinary, ofCall, ofNew, ofTemplate, ofObject, ofClass, ofConditional, Chooses}
 use Rattle.handlers.specs.Table.{Counted, handled}
 
 module _ {b : List ℕ} {i : ℕ} (s : Settings) (k : ℕ) (ek : k ≡ headAt b i .kind) where
@@ -141,13 +141,19 @@ module _ {b : List ℕ} {i : ℕ} (s : Settings) (k : ℕ) (ek : k ≡ headAt b 
       (x ∙ e, leb-true (children.heritage (t .head)) (count (t .kids)) d))
       ofClass (λ t. refl) w
 
-  -- Elements, and the kinds whose handlers are left out.
+  pub handles-conditional : k ≡ kind.conditional → {o : Outcome} → Chooses b i ofConditional o → Handles b i s o
+  unfolding handler childCountOk
+  handles-conditional e w =
+      handles (λ t. Handler.conditional) (λ t x. rw (x ∙ e))
+      (λ t x c. let d : eqb (count (t .kids)) 3 ≡ true = rw (x ∙ e) at c in (x ∙ e, eqb-true (count (t .kids)) 3 d)) ofConditional (λ t. refl) w
+
+  -- Elements, logical nodes, and the kinds whose handlers are left out.
   pub handles-other : 5 < k → (k ≡ kind.this → ⊥) → (k ≡ kind.array → ⊥) → (k ≡ kind.elision → ⊥) → (k ≡ kind.spread → ⊥)
       → (k ≡ kind.object → ⊥) → (k ≡ kind.property → ⊥) → (k ≡ kind.template → ⊥) → (k ≡ kind.sequence → ⊥) → (k ≡ kind.unary → ⊥)
-      → (k ≡ kind.binary → ⊥) → (k ≡ kind.call → ⊥) → (k ≡ kind.new → ⊥) → (k ≡ kind.class → ⊥) → Handles b i s Unchanged
+      → (k ≡ kind.binary → ⊥) → (k ≡ kind.call → ⊥) → (k ≡ kind.new → ⊥) → (k ≡ kind.class → ⊥) → (k ≡ kind.conditional → ⊥) → Handles b i s Unchanged
   unfolding handler
-  handles-other l a c d e f g h j m n p q r =
-      handles (λ t. other)
+  handles-other l a c d e f g h j m n p q r u =
+      handles other
       (λ t x. rw (
         x,
         le-leb 1 k (omega arith),
@@ -165,11 +171,21 @@ module _ {b : List ℕ} {i : ℕ} (s : Settings) (k : ℕ) (ek : k ≡ headAt b 
         ne-eqb k kind.call p,
         ne-eqb k kind.new q,
         ne-eqb k kind.class r,
+        ne-eqb k kind.conditional u,
       ))
-      (λ t x y. by-cond (λ (h : Handler). Counted h t) (eqb k kind.element) Handler.element Handler.leftOut (λ _. tt) (λ _. tt))
+      (λ t x y. by-other t (λ (h : Handler). Counted h t) tt tt tt tt)
       (λ t. Unchanged)
-      (λ t. by-cond (λ (h : Handler). Unchanged ≡ chosen h s t) (eqb k kind.element) Handler.element Handler.leftOut (λ _. refl) (λ _. refl))
+      (λ t. by-other t (λ (h : Handler). Unchanged ≡ chosen h s t) refl refl refl refl)
       (always Unchanged)
     where
-      other : Handler
-      other = cond (eqb k kind.element) Handler.element Handler.leftOut
+      logical : Tree → Handler
+      logical t = cond (eqb (t .head .sub) 1) Handler.logicalAnd Handler.logicalOr
+
+      other : Tree → Handler
+      other t = cond (eqb k kind.element) Handler.element (cond (eqb k kind.logical) (logical t) Handler.leftOut)
+
+      by-other : (t : Tree) (P : Handler → Type 0) → P Handler.element → P Handler.logicalAnd → P Handler.logicalOr → P Handler.leftOut → P (other t)
+      by-other t P w x y z =
+          by-cond P (eqb k kind.element) Handler.element (cond (eqb k kind.logical) (logical t) Handler.leftOut) (λ _. w)
+          (λ _. by-cond P (eqb k kind.logical) (logical t) Handler.leftOut
+          (λ _. by-cond P (eqb (t .head .sub) 1) Handler.logicalAnd Handler.logicalOr (λ _. x) (λ _. y)) (λ _. z))

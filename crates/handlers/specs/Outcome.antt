@@ -14,11 +14,12 @@ use Rattle.rules.specs.Handler.{isLiteral, isSpread}
 use Rattle.rules.specs.Made.{placeOf}
 use Rattle.rules.specs.Addition.{foldStringAdditionChain}
 use Rattle.rules.specs.Class.{extracted}
-use Rattle.rules.specs.Reduce.{reduce, noneOneSeveral, staysWith, transformTemplate, transformObject, joinKept, foldArgumentsIntoNeededExpressions, sequenceIfAny}
+use Rattle.rules.specs.Conditional.{test, consequentOf, alternateOf}
+use Rattle.rules.specs.Reduce.{reduce, noneOneSeveral, staysWith, transformTemplate, transformObject, joinKept, foldArgumentsIntoNeededExpressions, sequenceIfAny, joinArms}
 use Rattle.rules.specs.Proofs.Unfold.{reduced}
 use Rattle.readings.specs.Node.{Node}
 use Rattle.handlers.specs.declared.outcome.Outcome.{Outcome}
-use Rattle.handlers.specs.declared.outcome.Outcome.the-variants.{Removable, Unchanged, Unwrapped, Rewritten, Arguments, Addition, Class}
+use Rattle.handlers.specs.declared.outcome.Outcome.the-variants.{Removable, Unchanged, Unwrapped, Rewritten, Arguments, Addition, Class, Conditional}
 use Rattle.handlers.specs.declared.outcome.Rewrite.{Rewrite}
 use Rattle.handlers.specs.declared.outcome.Rewrite.the-variants.{Sequence, Array, Template, Object, Comparison}
 
@@ -43,6 +44,8 @@ outcome (Rewritten r) s t = rewritten r s t
 outcome Arguments s t = noneOneSeveral (placeOf t) (foldArgumentsIntoNeededExpressions (map (reduced s) (drop 1 (trees (t .kids)))))
 outcome Addition s t = keepIf (not (isLiteral (foldStringAdditionChain t))) (foldStringAdditionChain t)
 outcome Class s t = sequenceIfAny (placeOf t) (extracted t)
+outcome Conditional s t =
+    joinArms t (concatMap (reduce s) (test t)) (concatMap (reduce s) (consequentOf (trees (t .kids)))) (concatMap (reduce s) (alternateOf (trees (t .kids))))
 
 -- What an outcome counts on in the node.
 abbrev pub HasChildren : Outcome → Tree → Type 0
@@ -53,6 +56,7 @@ HasChildren (Rewritten r) t = Unit {0}
 HasChildren Arguments t = 1 ≤ count (t .kids)
 HasChildren Addition t = (t .head .kind ≡ kind.binary) × (t .head .sub ≡ 2) × (count (t .kids) ≡ 2)
 HasChildren Class t = (t .head .kind ≡ kind.class) × (children.heritage (t .head) ≤ count (t .kids))
+HasChildren Conditional t = (t .head .kind ≡ kind.conditional) × (count (t .kids) ≡ 3)
 
 pub record HandledAs (s : Settings) (t : Tree) (o : Outcome) : Type 0 where
   pub is : reduce s t ≡ outcome o s t

@@ -9,11 +9,12 @@ use Rattle.rules.specs.Handler.{Handler, handler, isSpread}
 use Rattle.rules.specs.Facts.{flagged, ofIdentifier, pureNew, pureCall, hasSideEffectsOrPreservedIife, unchangedTemplate, onlySpreads, flaggedChild}
 use Rattle.rules.specs.Made.{placeOf}
 use Rattle.rules.specs.Class.{keptClass}
-use Rattle.rules.specs.Reduce.{Reduced, kept, noneOneSeveral, staysWith, joinKept, foldArgumentsIntoNeededExpressions, withoutCallee, removeUnusedExpression}
-use Rattle.rules.specs.Proofs.Lists.{drop-map}
+use Rattle.rules.specs.Conditional.{testOf, armsOf, consequentOf, alternateOf}
+use Rattle.rules.specs.Reduce.{Reduced, kept, noneOneSeveral, staysWith, joinKept, foldArgumentsIntoNeededExpressions, withoutCallee, joinArms, removeUnusedExpression}
+use Rattle.rules.specs.Proofs.Lists.{take-map, drop-map}
 use Rattle.rules.specs.Proofs.Unfold.{reduced, reduce-is, kept-is}
 use Rattle.handlers.specs.declared.outcome.Outcome.{Outcome}
-use Rattle.handlers.specs.declared.outcome.Outcome.the-variants.{Removable, Unchanged, Unwrapped, Arguments, Addition, Class}
+use Rattle.handlers.specs.declared.outcome.Outcome.the-variants.{Removable, Unchanged, Unwrapped, Arguments, Addition, Class, Conditional}
 use Rattle.handlers.specs.Outcome.{outcome, HasChildren, HandledAs}
 use Rattle.handlers.specs.Choice.{chosen}
 
@@ -34,6 +35,9 @@ Counted Handler.otherBinary t = Unit {0}
 Counted Handler.call t = HasChildren Arguments t
 Counted Handler.new t = HasChildren Arguments t
 Counted Handler.class t = HasChildren Class t
+Counted Handler.conditional t = HasChildren Conditional t
+Counted Handler.logicalAnd t = Unit {0}
+Counted Handler.logicalOr t = Unit {0}
 Counted Handler.elision t = Unit {0}
 Counted Handler.spread t = Unit {0}
 Counted Handler.property t = Unit {0}
@@ -66,6 +70,15 @@ module _ (s : Settings) (t : Tree) where
     has = n;
   }
 
+  conditional : HasChildren Conditional t
+      → Leaves Conditional (joinArms t (kept (testOf (map (reduced s) (trees (t .kids))))) (kept (consequentOf (map (reduced s) (trees (t .kids))))) (kept (alternateOf (map (reduced s) (trees (t .kids))))))
+  conditional n = record {
+    is =
+        let ts = trees (t .kids) in
+        rw (take-map (reduced s) 1 ts, drop-map (reduced s) 1 ts, take-map (reduced s) 1 (armsOf ts), drop-map (reduced s) 1 (armsOf ts), kept-is s (testOf ts), kept-is s (consequentOf ts), kept-is s (alternateOf ts));
+    has = n;
+  }
+
   by-handler : (h : Handler) → Counted h t → Leaves (chosen h s t) (removeUnusedExpression h s t (map (reduced s) (trees (t .kids))))
   by-handler Handler.leaf n = either (flagged t) unchanged removed
   by-handler Handler.this n = either (derived s) unchanged removed
@@ -85,6 +98,9 @@ module _ (s : Settings) (t : Tree) where
   by-handler Handler.call n = either (pureCall s t) (arguments n) (either (hasSideEffectsOrPreservedIife s t) unchanged removed)
   by-handler Handler.new n = either (pureNew s t) (arguments n) unchanged
   by-handler Handler.class n = either (keptClass t) unchanged (record { is = refl; has = n })
+  by-handler Handler.conditional n = either (flagged t) (conditional n) removed
+  by-handler Handler.logicalAnd n = unchanged
+  by-handler Handler.logicalOr n = unchanged
   by-handler Handler.elision n = removed
   by-handler Handler.spread n = either (flagged t) unchanged removed
   by-handler Handler.property n = unwrapped

@@ -3,7 +3,7 @@ use crate::outcome;
 use crate::outcome::Outcome;
 use crate::outcome::Rewrite;
 ghost use Rattle.readings.specs.Node.{SomeNode, settingsWith};
-ghost use Rattle.handlers.specs.Choice.{Chooses, ofUnary, ofBinary, ofCall, ofNew, ofTemplate, ofObject, ofClass};
+ghost use Rattle.handlers.specs.Choice.{Chooses, ofUnary, ofBinary, ofCall, ofNew, ofTemplate, ofObject, ofClass, ofConditional};
 
 pub fn remove_unused_unary_expr(src: &[u8], at: usize) -> Outcome
     requires { ⌜ SomeNode (now src) at ⌝ }
@@ -90,4 +90,14 @@ pub fn remove_unused_class_expr(src: &[u8], at: usize) -> Outcome
         return Outcome::Unchanged;
     }
     Outcome::Class
+}
+
+pub fn remove_unused_conditional_expr(src: &[u8], at: usize) -> Outcome
+    requires { ⌜ SomeNode (now src) at ⌝ }
+    ensures { λ r. ⌜ Chooses (now (src .entry)) at ofConditional r ⌝ }
+{
+    if readings::flagged_at(src, at) {
+        return Outcome::Conditional;
+    }
+    Outcome::Removable
 }

@@ -33,6 +33,7 @@ pub fn handle(src: &[u8], at: usize, settings: u8) -> Outcome
         kind::CALL => expressions::remove_unused_call_expr(src, at, settings),
         kind::NEW => expressions::remove_unused_new_expr(src, at, settings),
         kind::CLASS => expressions::remove_unused_class_expr(src, at),
+        kind::CONDITIONAL => expressions::remove_unused_conditional_expr(src, at),
         _ => Outcome::Unchanged,
     }
 }

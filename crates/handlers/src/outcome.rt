@@ -23,6 +23,8 @@ pub enum Outcome {
     Addition,
     // of a class that is not kept
     Class,
+    // of a flagged conditional
+    Conditional,
 }
 
 pub fn stays_if(when: bool) -> Outcome

@@ -46,10 +46,10 @@ pub record Placed (old new : List ℕ) (place : Place) : Type 0 where
   pub above : Kept old new offset.behind
 
 -- The record at the front was made anew, and all else is as it was.
-pub record Made (old new : List ℕ) (kind facts : ℕ) (place : Place) (n z : ℕ) : Type 0 where
+pub record Made (old new : List ℕ) (kind sub facts : ℕ) (place : Place) (n z : ℕ) : Type 0 where
   pub kind-is : getD new offset.kind 0 ≡ kind
   pub facts-is : getD new offset.facts 0 ≡ facts
-  pub sub-is : getD new offset.sub 0 ≡ 0
+  pub sub-is : getD new offset.sub 0 ≡ sub
   pub reserved-is : getD new offset.reserved 0 ≡ 0
   pub children : u16At new offset.children ≡ n
   pub subtree : u16At new offset.subtree ≡ z
@@ -176,10 +176,10 @@ placed {old} {new} place e h =
     }
 
 -- A record made anew, a field at a time.
-pub made-of : {old a b c d new : List ℕ} {kind facts : ℕ} {place : Place} {n z : ℕ}
-    → a ≡ set (set (set (set old offset.kind kind) offset.facts facts) offset.sub 0) offset.reserved 0 → b ≡ set16 a offset.children n
-    → c ≡ set16 b offset.subtree z → d ≡ set32 c offset.text 0 → Placed d new place → offset.behind ≤ length old → Made old new kind facts place n z
-made-of {old} {a} {b} {c} {d} {new} {kind} {facts} {place} {n} {z} ea eb ec ed en h =
+pub made-of : {old a b c d new : List ℕ} {kind sub facts : ℕ} {place : Place} {n z : ℕ}
+    → a ≡ set (set (set (set old offset.kind kind) offset.facts facts) offset.sub sub) offset.reserved 0 → b ≡ set16 a offset.children n
+    → c ≡ set16 b offset.subtree z → d ≡ set32 c offset.text 0 → Placed d new place → offset.behind ≤ length old → Made old new kind sub facts place n z
+made-of {old} {a} {b} {c} {d} {new} {kind} {sub} {facts} {place} {n} {z} ea eb ec ed en h =
     let la : length a ≡ length old = rw ea (simp length-set) in
     let lb : length b ≡ length a = rw eb (length-set16 a 4 n) in
     let lc : length c ≡ length b = rw ec (length-set16 b 6 z) in
@@ -191,17 +191,17 @@ made-of {old} {a} {b} {c} {d} {new} {kind} {facts} {place} {n} {z} ea eb ec ed e
     let low : (k : ℕ) → k < 4 → getD new k 0 ≡ getD a k 0 = λ k l. n-c k (omega arith) ∙ c-b k (omega arith) (omega arith) ∙ b-a k (omega arith) (omega arith) in
     let s1 : List ℕ = set old 0 kind in
     let s2 : List ℕ = set s1 1 facts in
-    let s3 : List ℕ = set s2 2 0 in
+    let s3 : List ℕ = set s2 2 sub in
     let l1 : length s1 ≡ length old = length-set old 0 kind in
     let l2 : length s2 ≡ length s1 = length-set s1 1 facts in
-    let l3 : length s3 ≡ length s2 = length-set s2 2 0 in
+    let l3 : length s3 ≡ length s2 = length-set s2 2 sub in
     record {
       kind-is =
           low 0 (omega arith)
           ∙ rw ea
-          (getD-set-other s3 3 0 0 0 (omega arith) ∙ getD-set-other s2 2 0 0 0 (omega arith) ∙ getD-set-other s1 1 0 facts 0 (omega arith) ∙ getD-set-same old 0 kind 0 (omega arith));
-      facts-is = low 1 (omega arith) ∙ rw ea (getD-set-other s3 3 1 0 0 (omega arith) ∙ getD-set-other s2 2 1 0 0 (omega arith) ∙ getD-set-same s1 1 facts 0 (omega arith));
-      sub-is = low 2 (omega arith) ∙ rw ea (getD-set-other s3 3 2 0 0 (omega arith) ∙ getD-set-same s2 2 0 0 (omega arith));
+          (getD-set-other s3 3 0 0 0 (omega arith) ∙ getD-set-other s2 2 0 sub 0 (omega arith) ∙ getD-set-other s1 1 0 facts 0 (omega arith) ∙ getD-set-same old 0 kind 0 (omega arith));
+      facts-is = low 1 (omega arith) ∙ rw ea (getD-set-other s3 3 1 0 0 (omega arith) ∙ getD-set-other s2 2 1 sub 0 (omega arith) ∙ getD-set-same s1 1 facts 0 (omega arith));
+      sub-is = low 2 (omega arith) ∙ rw ea (getD-set-other s3 3 2 0 0 (omega arith) ∙ getD-set-same s2 2 sub 0 (omega arith));
       reserved-is = low 3 (omega arith) ∙ rw ea (getD-set-same s3 3 0 0 (omega arith));
       children =
           u16-same b new 4 4 (n-c 4 (omega arith) ∙ c-b 4 (omega arith) (omega arith)) (n-c 5 (omega arith) ∙ c-b 5 (omega arith) (omega arith)) ∙ rw eb (u16-set16 a 4 n (omega arith));
@@ -217,6 +217,6 @@ made-of {old} {a} {b} {c} {d} {new} {kind} {facts} {place} {n} {z} ea eb ec ed e
             ∙ c-b k (omega arith) (omega arith)
             ∙ b-a k (omega arith) (omega arith)
             ∙ rw ea
-            (getD-set-other s3 3 k 0 0 (omega arith) ∙ getD-set-other s2 2 k 0 0 (omega arith) ∙ getD-set-other s1 1 k facts 0 (omega arith) ∙ getD-set-other old 0 k kind 0 (omega arith));
+            (getD-set-other s3 3 k 0 0 (omega arith) ∙ getD-set-other s2 2 k sub 0 (omega arith) ∙ getD-set-other s1 1 k facts 0 (omega arith) ∙ getD-set-other old 0 k kind 0 (omega arith));
       };
     }

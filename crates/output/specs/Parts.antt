@@ -65,10 +65,10 @@ module _ (xs ys : List ℕ) (pos : ℕ) (h : pos + 1 ≤ recordsIn xs) (l : leng
   unfolding after
   above n b e = record { bytes = record { same = λ k m. put-kept (start pos) xs ys inside k n (omega (arith, next)) e } }
 
-  made-start : (kind facts : ℕ) (place : Place) (n z : ℕ) → Made (lent xs (start pos)) ys kind facts place n z
-      → Recorded xs after pos (madeHead kind facts place) n z
+  made-start : (kind sub facts : ℕ) (place : Place) (n z : ℕ) → Made (lent xs (start pos)) ys kind sub facts place n z
+      → Recorded xs after pos (madeHead kind sub facts place) n z
   unfolding after
-  made-start kind facts place n z m =
+  made-start kind sub facts place n z m =
       let c = put-copied (start pos) xs ys inside offset.behind in
       let k = copied-at c (start pos + offset.kind) offset.kind offset.kind refl refl (omega arith) ∙ m .kind-is in
       let f = copied-at c (start pos + offset.facts) offset.facts offset.facts refl refl (omega arith) ∙ m .facts-is in
@@ -111,12 +111,12 @@ module _ (xs ys : List ℕ) (pos : ℕ) (h : pos + 1 ≤ recordsIn xs) (l : leng
 
 -- The same of a part that starts at p, which is where record pos starts.
 module _ (xs ys : List ℕ) (pos : ℕ) (h : pos + 1 ≤ recordsIn xs) (p : ℕ) (e : p ≡ start pos) where
-  pub made-at : length (givenBack xs ys p) ≡ length xs → (kind facts : ℕ) (place : Place) (n z : ℕ) → Made (lent xs p) ys kind facts place n z
-      → Recorded xs (givenBack xs ys p) pos (madeHead kind facts place) n z
+  pub made-at : length (givenBack xs ys p) ≡ length xs → (kind sub facts : ℕ) (place : Place) (n z : ℕ) → Made (lent xs p) ys kind sub facts place n z
+      → Recorded xs (givenBack xs ys p) pos (madeHead kind sub facts place) n z
   unfolding after
-  made-at l kind facts place n z =
-      subst (λ (q : ℕ). length (givenBack xs ys q) ≡ length xs → Made (lent xs q) ys kind facts place n z → Recorded xs (givenBack xs ys q) pos (madeHead kind facts place) n z) (sym e)
-      (λ k. made-start xs ys pos h k kind facts place n z) l
+  made-at l kind sub facts place n z =
+      subst (λ (q : ℕ). length (givenBack xs ys q) ≡ length xs → Made (lent xs q) ys kind sub facts place n z → Recorded xs (givenBack xs ys q) pos (madeHead kind sub facts place) n z) (sym e)
+      (λ k. made-start xs ys pos h k kind sub facts place n z) l
 
   pub kept-at : length (givenBack xs ys p) ≡ length xs → (s : List ℕ) (at : ℕ) (old : List ℕ) (n z : ℕ) → MovedRecords s at 1 old xs pos → Patched (lent xs p) ys n z
       → Recorded old (givenBack xs ys p) pos (headAt s at) n z

@@ -6,7 +6,7 @@ use native.Mathlib.Omega.{arith}
 use lib.ListN.{length}
 use Rattle.tree.specs.Tree.{Head, Forest, nil, node, Tree, forest, one, count, records, size}
 use Rattle.tree.specs.Stands.{Stands}
-use Rattle.output.specs.Records.{Before, CopiedRecords, MovedRecords, Recorded, before-less, before-trans, before-copied, behind-copied, copied-records, head-copied, children-copied, subtree-copied}
+use Rattle.output.specs.Records.{Before, Behind, CopiedRecords, MovedRecords, Recorded, before-less, before-trans, before-copied, behind-copied, copied-records, head-copied, children-copied, subtree-copied}
 
 -- The trees ts stand from record p to record e.
 pub record Spans (s : List ℕ) (p e : ℕ) (ts : List Tree) : Type 0 where
@@ -43,6 +43,13 @@ module _ {ts : List Tree} where
   pub spans-agree : {s s′ : List ℕ} {p e n : ℕ} → Spans s p e ts → Before s s′ n → e ≤ n → Spans s′ p e ts
   spans-agree {p = p} d a l = record {
     stands = stands-copied (forest ts) p p (before-copied p (records (forest ts)) (omega (arith, d .ends)) a) (d .stands);
+    ends = d .ends;
+  }
+
+  -- What stands behind what was written still stands.
+  pub spans-kept : {s s′ : List ℕ} {p e n : ℕ} → Spans s p e ts → Behind s s′ n → n ≤ p → Spans s′ p e ts
+  spans-kept {p = p} d k l = record {
+    stands = stands-copied (forest ts) p p (behind-copied p (records (forest ts)) l k) (d .stands);
     ends = d .ends;
   }
 

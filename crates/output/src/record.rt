@@ -90,13 +90,13 @@ fn put_place(part: &mut [u8], place: Place)
 }
 
 // The record that part starts with is made anew.
-fn make(part: &mut [u8], kind: u8, facts: u8, place: Place, n: usize, z: usize)
+fn make(part: &mut [u8], kind: u8, sub: u8, facts: u8, place: Place, n: usize, z: usize)
     requires { ⌜ (behind ≤ length (now part)) × (n < 65536) × (z < 65536) ⌝ }
-    ensures { λ _. ⌜ Made (now (part .entry)) (now (part .exit)) kind facts (asPlace place) n z ⌝ }
+    ensures { λ _. ⌜ Made (now (part .entry)) (now (part .exit)) kind sub facts (asPlace place) n z ⌝ }
 {
     part[offset::KIND] = kind;
     part[offset::FACTS] = facts;
-    part[offset::SUB] = 0;
+    part[offset::SUB] = sub;
     part[offset::RESERVED] = 0;
     le::put16(part, offset::CHILDREN, n);
     le::put16(part, offset::SUBTREE, z);
@@ -105,10 +105,19 @@ fn make(part: &mut [u8], kind: u8, facts: u8, place: Place, n: usize, z: usize)
 }
 
 // Record pos of out is made: "text 0, symbol and string unknown".
-pub fn make_at(out: &mut [u8], pos: usize, kind: u8, facts: u8, place: Place, n: usize, z: usize)
+pub fn make_at(
+    out: &mut [u8],
+    pos: usize,
+    kind: u8,
+    sub: u8,
+    facts: u8,
+    place: Place,
+    n: usize,
+    z: usize,
+)
     requires { ⌜ (pos + 1 ≤ recordsIn (now out)) × (n < 65536) × (z < 65536) ⌝ }
-    ensures { λ _. ⌜ Recorded (now (out .entry)) (now (out .exit)) pos (madeHead kind facts (asPlace place)) n z ⌝ }
+    ensures { λ _. ⌜ Recorded (now (out .entry)) (now (out .exit)) pos (madeHead kind sub facts (asPlace place)) n z ⌝ }
 {
     let p = fields::start_of(out, pos);
-    make(&mut out[p..], kind, facts, place, n, z);
+    make(&mut out[p..], kind, sub, facts, place, n, z);
 }

@@ -26,13 +26,17 @@ sub-small h w n =
     (λ _. by-cond P (eqb (h .kind) kind.unary) (leb 1 (h .sub) && leb (h .sub) 4) rest₂ (λ _ e. omega (arith, leb-true (h .sub) 4 (and-right (leb 1 (h .sub)) (leb (h .sub) 4) e)))
     (λ _. by-cond P (eqb (h .kind) kind.binary) (leb 1 (h .sub) && leb (h .sub) 3) rest₃ (λ _ e. omega (arith, leb-true (h .sub) 3 (and-right (leb 1 (h .sub)) (leb (h .sub) 3) e)))
     (λ _. by-cond P (eqb (h .kind) kind.class) (leb (h .sub) 3) rest₄ (λ _ e. omega (arith, leb-true (h .sub) 3 e))
-    (λ _. by-cond P (eqb (h .kind) kind.element) (elementSubOk (h .sub)) (eqb (h .sub) 0) (λ k _. absurd (n (eqb-true (h .kind) kind.element k))) (λ _ e. omega (arith, eqb-true (h .sub) 0 e)))))) w
+    (λ _. by-cond P (eqb (h .kind) kind.element) (elementSubOk (h .sub)) rest₅ (λ k _. absurd (n (eqb-true (h .kind) kind.element k)))
+    (λ _. by-cond P (eqb (h .kind) kind.logical) (leb (h .sub) 2) (eqb (h .sub) 0) (λ _ e. omega (arith, leb-true (h .sub) 2 e)) (λ _ e. omega (arith, eqb-true (h .sub) 0 e))))))) w
   where
     P : Bool → Type 0
     P b = b ≡ true → h .sub < 16
 
+    rest₅ : Bool
+    rest₅ = cond (eqb (h .kind) kind.logical) (leb (h .sub) 2) (eqb (h .sub) 0)
+
     rest₄ : Bool
-    rest₄ = cond (eqb (h .kind) kind.element) (elementSubOk (h .sub)) (eqb (h .sub) 0)
+    rest₄ = cond (eqb (h .kind) kind.element) (elementSubOk (h .sub)) rest₅
 
     rest₃ : Bool
     rest₃ = cond (eqb (h .kind) kind.class) (leb (h .sub) 3) rest₄

@@ -8,6 +8,8 @@ pub mod Sequence
 pub mod Class
 pub mod Input
 pub mod Split
+pub mod Test
+pub mod Arms
 pub mod Element
 pub mod Addition
 pub mod Heritage

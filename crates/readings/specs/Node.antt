@@ -1,7 +1,7 @@
 -- What a reading of the record at i tells: of the record itself, and of the tree that stands there.
 use mathlib.Core.Path.{_≡_}
 use mathlib.Core.Bool.{Bool}
-use mathlib.Core.List.{List}
+use mathlib.Core.List.{List, []}
 use Prim.Native.Nat.{ℕ, _+_, _≤_}
 use Rattle.tree.specs.Tree.{Head, nil, Tree, one, size}
 use Rattle.tree.specs.Room.{recordsIn}
@@ -9,9 +9,12 @@ use Rattle.tree.specs.Fields.{headAt}
 use Rattle.tree.specs.Stands.{Stands}
 use Rattle.rules.specs.Settings.{Settings}
 
--- "5 settings", the byte of a tree file.
+-- "5 settings", the byte of a tree file; 02, N1: with "the places that count as yes", or with none.
+abbrev pub settingsGiven : List ℕ → ℕ → Settings
+settingsGiven places byte = record { byte = byte; yes = places }
+
 abbrev pub settingsWith : ℕ → Settings
-settingsWith byte = record { byte = byte }
+settingsWith byte = settingsGiven [] byte
 
 -- A node by its own record alone, and that of record i: what is asked of a record is asked of this.
 abbrev pub alone : Head → Tree

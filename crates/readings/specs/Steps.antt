@@ -7,17 +7,17 @@ use native.Mathlib.Omega.{arith}
 use lib.Dec.{eqb}
 use lib.ListN.{take}
 use borrow.Author.Tests.{eq-eqb, ne-eqb}
-use Rattle.tree.specs.Tree.{Head, Forest, nil, node, Tree, trees, count, records}
+use Rattle.tree.specs.Tree.{Place, Head, Forest, nil, node, Tree, trees, count, records}
 use Rattle.tree.specs.Record.{bitSet}
 use Rattle.tree.specs.Room.{recordsIn}
 use Rattle.tree.specs.Fields.{headAt, childrenAt}
 use Rattle.tree.specs.Stands.{Stands}
 use Rattle.rules.specs.Lists.{any}
-use Rattle.rules.specs.Settings.{annotations}
+use Rattle.rules.specs.Settings.{annotations, countsAsYes}
 use Rattle.rules.specs.Handler.{isKind, firstIs, isAddition}
-use Rattle.rules.specs.Facts.{annotated, listed, pureNew}
+use Rattle.rules.specs.Facts.{annotated, listed, pureNew, testIsYes}
 use Rattle.tree.specs.Kind as kind
-use Rattle.readings.specs.Node.{alone, SomeNode, Tells}
+use Rattle.readings.specs.Node.{settingsGiven, settingsWith, alone, SomeNode, Tells}
 
 -- What is said of the head that was read is said of the tree's.
 tells-head : {s : List ℕ} {i : ℕ} (p : Head → Bool) {r : Bool} → r ≡ p (headAt s i) → Tells s i (λ t. p (t .head)) r
@@ -70,29 +70,38 @@ module _ {s : List ℕ} {i k : ℕ} (e : k ≡ childrenAt s i) where
       go nil c l = absurd (z (e ∙ c))
       go (node h cs rest) c l = omega arith
 
-  module _ (kind : ℕ) where
-    pub first-none : k ≡ 0 → Tells s i (firstIs (isKind kind)) false
+  module _ (p : Tree → Bool) where
+    pub first-none : k ≡ 0 → Tells s i (firstIs p) false
     first-none z = record { by = λ t n. go (t .kids) (n .stands .1) }
       where
-        go : (f : Forest) → childrenAt s i ≡ count f → false ≡ any (isKind kind) (take 1 (trees f))
+        go : (f : Forest) → childrenAt s i ≡ count f → false ≡ any p (take 1 (trees f))
         go nil c = refl
         go (node h cs rest) c = absurd (omega arith)
 
-    pub first-some : (k ≡ 0 → ⊥) → (c : ℕ) → c ≡ headAt s (i + 1) .kind → Tells s i (firstIs (isKind kind)) (eqb c kind)
-    unfolding isKind
-    first-some z c x = record { by = λ t n. go (t .kids) (n .stands .1) (n .stands .3) }
+    -- By what the test asks of the child's own record.
+    pub first-some : (q : Head → Bool) → ((t : Tree) → q (t .head) ≡ p t) → (k ≡ 0 → ⊥) → (r : Bool) → r ≡ q (headAt s (i + 1)) → Tells s i (firstIs p) r
+    first-some q own z r x = record { by = λ t n. go (t .kids) (n .stands .1) (n .stands .3) }
       where
-        go : (f : Forest) → childrenAt s i ≡ count f → Stands s (i + 1) f → eqb c kind ≡ any (isKind kind) (take 1 (trees f))
+        go : (f : Forest) → childrenAt s i ≡ count f → Stands s (i + 1) f → r ≡ any p (take 1 (trees f))
         go nil y d = absurd (z (e ∙ y))
-        go (node h cs rest) y d = ap (λ (a : ℕ). eqb a kind) (x ∙ ap (λ (a : Head). a .kind) (d .0)) ∙ sym (or-false (eqb (h .kind) kind))
+        go (node h cs rest) y d = x ∙ ap q (d .0) ∙ own (record { head = h; kids = cs }) ∙ sym (or-false (p (record { head = h; kids = cs })))
+
+  pub first-kind : (kind : ℕ) → (k ≡ 0 → ⊥) → (c : ℕ) → c ≡ headAt s (i + 1) .kind → Tells s i (firstIs (isKind kind)) (eqb c kind)
+  unfolding isKind
+  first-kind kind z c x = first-some (isKind kind) (λ h. eqb (h .kind) kind) (λ t. refl) z _ (ap (λ (a : ℕ). eqb a kind) x)
+
+  pub first-yes : (places : List ℕ) (byte : ℕ) → (k ≡ 0 → ⊥) → (c : Place) → c ≡ headAt s (i + 1) .place → Tells s i (testIsYes (settingsGiven places byte)) (any (eqb (c .start)) places)
+  unfolding testIsYes countsAsYes
+  first-yes places byte z c x =
+      first-some (λ t. any (eqb (t .head .place .start)) places) (λ h. any (eqb (h .place .start)) places) (λ t. refl) z _ (ap (λ (a : Place). any (eqb (a .start)) places) x)
 
 -- A pure new, by the settings byte b and the facts f.
 module _ {s : List ℕ} {i : ℕ} (b f : ℕ) (e : f ≡ headAt s i .facts) where
-  pure-facts : {r : Bool} → r ≡ ((bitSet 0 b && bitSet 5 f) || bitSet 6 f) → Tells s i (pureNew (record { byte = b })) r
+  pure-facts : {r : Bool} → r ≡ ((bitSet 0 b && bitSet 5 f) || bitSet 6 f) → Tells s i (pureNew (settingsWith b)) r
   unfolding pureNew annotations annotated listed
   pure-facts x = rw x (tells-facts (λ (y : ℕ). (bitSet 0 b && bitSet 5 y) || bitSet 6 y) e)
 
-  pub pure-listed : f / 64 % 2 ≡ 1 → Tells s i (pureNew (record { byte = b })) true
+  pub pure-listed : f / 64 % 2 ≡ 1 → Tells s i (pureNew (settingsWith b)) true
   pure-listed l = pure-facts (rw (eq-eqb (f / 64 % 2) 1 l) (sym (or-true (bitSet 0 b && bitSet 5 f))))
     where
       or-true : (x : Bool) → (x || true) ≡ true
@@ -100,12 +109,12 @@ module _ {s : List ℕ} {i : ℕ} (b f : ℕ) (e : f ≡ headAt s i .facts) wher
       or-true false = refl
 
   module _ (l : f / 64 % 2 ≡ 1 → ⊥) where
-    pub pure-annotated : b % 2 ≡ 1 → Tells s i (pureNew (record { byte = b })) (eqb (f / 32 % 2) 1)
+    pub pure-annotated : b % 2 ≡ 1 → Tells s i (pureNew (settingsWith b)) (eqb (f / 32 % 2) 1)
     pure-annotated a =
         let y : b / 1 % 2 ≡ 1 = omega arith in
         pure-facts (rw (ne-eqb (f / 64 % 2) 1 l, eq-eqb (b / 1 % 2) 1 y) (sym (or-false (bitSet 5 f))))
 
-    pub pure-neither : (b % 2 ≡ 1 → ⊥) → Tells s i (pureNew (record { byte = b })) false
+    pub pure-neither : (b % 2 ≡ 1 → ⊥) → Tells s i (pureNew (settingsWith b)) false
     pure-neither a =
         let y : b / 1 % 2 ≡ 1 → ⊥ = λ (z : b / 1 % 2 ≡ 1). a (omega arith) in
         pure-facts (rw (ne-eqb (f / 64 % 2) 1 l, ne-eqb (b / 1 % 2) 1 y))

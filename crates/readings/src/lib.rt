@@ -5,6 +5,7 @@ mod facts;
 mod first;
 mod lists;
 mod sequence;
+mod test;
 
 pub use calls::has_side_effects_or_preserved_iife;
 pub use calls::of_identifier;
@@ -22,3 +23,4 @@ pub use first::first_size;
 pub use lists::flagged_child;
 pub use lists::only_spreads;
 pub use lists::unchanged_template;
+pub use test::test_is_yes;

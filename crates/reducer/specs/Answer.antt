@@ -14,8 +14,8 @@ use Rattle.tree.specs.File.{fileBytes}
 use Rattle.tree.specs.Refusal.{reduceLimits, listEffectsLimits, refusal, treeOf}
 use Rattle.rules.specs.Reduce.{reduce}
 use Rattle.rules.specs.Reads.{Premise}
-use Rattle.readings.specs.Node.{settingsWith}
-use Rattle.effects.specs.Answer.{effectList}
+use Rattle.readings.specs.Node.{settingsGiven, settingsWith}
+use Rattle.effects.specs.Answer.{effectListGiven}
 use Rattle.reducer.specs.declared.Reduced.{Reduced}
 use Rattle.reducer.specs.declared.Reduced.the-variants.{Refused, Removable, Kept}
 
@@ -72,13 +72,17 @@ abbrev pub bytesOf : ℕ → List ℕ → List ℕ → List ℕ
 bytesOf zero s old = rewritten s ++ drop (length (rewritten s)) old
 bytesOf (suc k) s old = old
 
--- The effect list of the answer: what List effects lists of a kept file, and none where nothing is kept.
-abbrev listOf : List Tree → List ℕ → List ℕ
-listOf [] file = []
-listOf (t ∷ ts) file = effectList file
+-- The effect list of the answer under the places that count as yes: what List effects lists of a kept file, and none where nothing is
+-- kept.
+abbrev listOf : List ℕ → List Tree → List ℕ → List ℕ
+listOf places [] file = []
+listOf places (t ∷ ts) file = effectListGiven places file
 
-unfoldable pub answerList : List ℕ → List ℕ
-answerList s = listOf (left s) (rewritten s)
+unfoldable pub answerListGiven : List ℕ → List ℕ → List ℕ
+answerListGiven places s = listOf places (left s) (rewritten s)
+
+abbrev pub answerList : List ℕ → List ℕ
+answerList s = answerListGiven [] s
 
 -- A kept file: List effects accepts it, and it holds the tree that is left, under the same settings.
 pub record KeptFile (s : List ℕ) (t : Tree) : Type 0 where
@@ -89,8 +93,9 @@ pub record KeptFile (s : List ℕ) (t : Tree) : Type 0 where
 -- What holds of the answer to an accepted file.
 pub record Promised (s : List ℕ) : Type 0 where
   -- Demand 3: "the same effects, each as often and in the same order. [...] A tree answered removable has an empty list. [...] The one
-  -- premise: each node whose clear effect flag is read, in the cases that 01 names, has an empty effect list."
-  pub same-effects : Premise (settingsWith (settingsOf s)) (treeOf s) → answerList s ≡ effectList s
+  -- premise: each node whose clear effect flag is read, in the cases that 01 names, has an empty effect list." 02, N1: "For every such list
+  -- the effects must be equal, the premise being read under the same list".
+  pub same-effects : (places : List ℕ) → Premise (settingsGiven places (settingsOf s)) (treeOf s) → answerListGiven places s ≡ effectListGiven places s
   -- "premise or not, there is no result of more than 2 × N − 1 records from N"
   pub few : records (forest (left s)) ≤ 2 * countOf s - 1
   -- "Result depth is at most one more."

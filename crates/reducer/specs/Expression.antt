@@ -75,7 +75,7 @@ module _ {s : List ℕ} {at size depth : ℕ} {old mid : List ℕ} {pos next : �
   becomes-left f b t i ts w = wrote-over w (omega arith) (b .by t (i .holds .stands .0) ts (w .spans))
 
 module _ {s : List ℕ} {at size depth : ℕ} {st : Settings} where
-  outcome-is : (o : Outcome) → Handles s at st o → (t : Tree) → Input s at size depth (one t) → HandledAs st t o
+  pub outcome-is : (o : Outcome) → Handles s at st o → (t : Tree) → Input s at size depth (one t) → HandledAs st t o
   outcome-is o h t i = h .by t (input-node i) (first-node i)
 
   pub removable-done : Handles s at st Removable → {old : List ℕ} {pos : ℕ} → ReducedTree s at size depth st old old pos pos

@@ -6,6 +6,7 @@ pub mod Given
 pub mod Children
 pub mod Child
 pub mod Expression
+pub mod Conditional
 pub mod Header
 pub mod Answer
 pub mod Run

@@ -24,17 +24,17 @@ use Rattle.tree.specs.Kind as kind
 use Rattle.file.specs.Answer as check
 use Rattle.rules.specs.Reads.{Premise}
 use Rattle.rules.specs.Reduce.{reduce}
-use Rattle.rules.specs.Theorems.{kept-same-effects, removable-no-effects, at-most-twice, one-deeper, at-most-one, kept-within}
-use Rattle.readings.specs.Node.{settingsWith}
+use Rattle.rules.specs.Theorems.{kept-same-effects, removable-no-effects, yes-unread, at-most-twice, one-deeper, at-most-one, kept-within}
+use Rattle.readings.specs.Node.{settingsGiven, settingsWith}
 use Rattle.readings.specs.Input.{Input}
-use Rattle.effects.specs.Answer.{effectList}
+use Rattle.effects.specs.Answer.{effectListGiven}
 use Rattle.output.specs.Bytes.{Moved, copied-at}
 use Rattle.output.specs.Records.{behind-copied}
 use Rattle.output.specs.Trees.{Wrote, spans-copied}
 use Rattle.reducer.specs.declared.Reduced.the-variants.{Refused, Removable, Kept}
 use Rattle.reducer.specs.Header.{Headed}
 use Rattle.reducer.specs.Given.{GivenTree, ReducedTree}
-use Rattle.reducer.specs.Answer.{leastOutput, number, numberBy, left, rewritten, answerList, KeptFile, Promised, Answers}
+use Rattle.reducer.specs.Answer.{leastOutput, number, numberBy, left, rewritten, answerListGiven, KeptFile, Promised, Answers}
 
 -- An accepted file, and room for its answer.
 pub record GivenFile (s : List ℕ) (count settings : ℕ) (out : List ℕ) : Type 0 where
@@ -59,15 +59,18 @@ module _ (s : List ℕ) (bs : Bytes s) (e : refusal reduceLimits s ≡ 0) where
       let f = kept-of t x in
       record { is-listed = rw x (f .accepted); tree-is = rw x (f .tree-is); settings-is = rw x (f .settings-is) }
 
-  same : Premise (settingsWith (settingsOf s)) (treeOf s) → answerList s ≡ effectList s
-  unfolding answerList rewritten effectList left
-  same p = go (left s) refl (at-most-one (settingsWith (settingsOf s)) (treeOf s) (A .permitted .well))
+  same : (places : List ℕ) → Premise (settingsGiven places (settingsOf s)) (treeOf s) → answerListGiven places s ≡ effectListGiven places s
+  unfolding answerListGiven rewritten effectListGiven left
+  same places p = go (left s) refl (at-most-one (settingsWith (settingsOf s)) (treeOf s) (A .permitted .well))
     where
-      go : (l : List Tree) → left s ≡ l → length (left s) ≤ 1 → answerList s ≡ effectList s
-      go [] x n = rw x (sym (removable-no-effects (settingsWith (settingsOf s)) (treeOf s) (A .permitted .well) p x))
+      unread : (l : List Tree) → left s ≡ l → reduce (settingsGiven places (settingsOf s)) (treeOf s) ≡ l
+      unread l x = yes-unread (settingsWith (settingsOf s)) (treeOf s) places ∙ x
+
+      go : (l : List Tree) → left s ≡ l → length (left s) ≤ 1 → answerListGiven places s ≡ effectListGiven places s
+      go [] x n = rw x (sym (removable-no-effects (settingsGiven places (settingsOf s)) (treeOf s) (A .permitted .well) p (unread [] x)))
       go (t ∷ []) x n =
           let f = kept-of t x in
-          rw x (rw (f .settings-is, f .tree-is) (kept-same-effects (settingsWith (settingsOf s)) (treeOf s) (A .permitted .well) p t x))
+          rw x (rw (f .settings-is, f .tree-is) (kept-same-effects (settingsGiven places (settingsOf s)) (treeOf s) (A .permitted .well) p t (unread (t ∷ []) x)))
       go (t ∷ u ∷ us) x n = absurd (omega (arith, n, ap length x))
 
   pub promises : Promised s

@@ -4,14 +4,14 @@ use mathlib.Core.Bool.{Bool, false}
 use mathlib.Core.List.{List, [], _∷_}
 use Prim.Native.Nat.{ℕ, _+_, _<_, _≤_}
 use native.Mathlib.Omega.{arith}
-use Rattle.tree.specs.Tree.{Place, Head, Tree, forest, records}
+use Rattle.tree.specs.Tree.{Place, Head, Tree}
 use Rattle.tree.specs.Room.{recordsIn}
 use Rattle.tree.specs.Fields.{headAt}
 use Rattle.rules.specs.Made.{placeOf, makeTemplate, makeObject}
 use Rattle.rules.specs.Reduce.{flush}
 use Rattle.readings.specs.Node.{Tells}
-use Rattle.output.specs.Records.{Behind, before-all, behind-copied}
-use Rattle.output.specs.Trees.{Spans, Wrote, wrote-none, spans-append, stands-copied}
+use Rattle.output.specs.Records.{before-all}
+use Rattle.output.specs.Trees.{Spans, Wrote, wrote-none, spans-append, spans-kept}
 use Rattle.rewrite.specs.Waiting.{Waits, GivenWaiting, Flushed, waits-none}
 use Rattle.reducer.specs.declared.walk.Part.{Part}
 use Rattle.reducer.specs.declared.walk.Part.the-variants.{InOrder, Argument, Template, Object}
@@ -43,13 +43,6 @@ pub record Settles (s : List ℕ) (at : ℕ) (part : Part) (old new : List ℕ) 
   pub by : (t : Tree) → headAt s at ≡ t .head → (w : List Tree) → Waits old slot next w → (r : List Tree) → Spans old next end r → Stepped old new slot slot′ next′ (settled part t w r)
   pub few : next′ ≤ end
 
--- What stands behind bytes that have changed.
-spans-kept : {old new : List ℕ} {p e : ℕ} {ts : List Tree} → Spans old p e ts → Behind old new p → Spans new p e ts
-spans-kept {p = p} {ts = ts} d k = record {
-  stands = stands-copied (forest ts) p p (behind-copied p (records (forest ts)) (omega arith) k) (d .stands);
-  ends = d .ends;
-}
-
 pub settled-waiting : {out : List ℕ} {slot next end : ℕ} → GivenSettled out slot next end → GivenWaiting out slot next
 settled-waiting g = record { list = g .wait; waits = g .waits; inside = omega (arith, g .inside, g .spans .ends); small = g .small }
 
@@ -75,7 +68,7 @@ module _ {old : List ℕ} {slot next end : ℕ} where
           let p : place ≡ t .head .place = ep ∙ ap (λ (h : Head). h .place) (d .stands .0) in
           let y : Wrote old new slot next (flush makeTemplate (placeOf t) w) = subst (λ (q : Place). Wrote old new slot next (flush makeTemplate q w)) p (f .by w x) in
           record {
-            done = record { spans = spans-append (flush makeTemplate (placeOf t) w) (t ∷ r) (y .spans) (spans-kept d (f .above)); frame = y .frame };
+            done = record { spans = spans-append (flush makeTemplate (placeOf t) w) (t ∷ r) (y .spans) (spans-kept d (f .above) (omega arith)); frame = y .frame };
             waiting = waits-none new end;
           }
 
@@ -87,7 +80,7 @@ module _ {s : List ℕ} {at : ℕ} {old : List ℕ} {slot next end : ℕ} where
       go t p w x r d =
           let y : Wrote old new slot next (flush makeObject (placeOf t) w) = subst (λ (q : Place). Wrote old new slot next (flush makeObject q w)) p (f .by w x) in
           record {
-            done = record { spans = spans-append (flush makeObject (placeOf t) w) r (y .spans) (spans-kept d (f .above)); frame = y .frame };
+            done = record { spans = spans-append (flush makeObject (placeOf t) w) r (y .spans) (spans-kept d (f .above) (omega arith)); frame = y .frame };
             waiting = waits-none new end;
           }
 

@@ -9,6 +9,7 @@ use handlers::outcome::Rewrite;
 ghost use Rattle.tree.specs.Room.{recordsIn};
 ghost use Rattle.readings.specs.Node.{settingsWith};
 ghost use Rattle.reducer.specs.Expression.{GivenRewritten};
+ghost use Rattle.reducer.specs.Conditional.{GivenConditional};
 ghost use Rattle.reducer.specs.Given.{GivenTree, ReducedTree, GivenChild, ReducedChild, GivenChildren, ReducedChildren};
 
 // The trees from record at on, in size records.
@@ -102,7 +103,39 @@ pub fn remove_unused_expression(
         }
         Outcome::Addition => addition::remove_unused_addition(src, at, size, out, pos),
         Outcome::Class => classes::remove_unused_class(src, at, size, out, pos),
+        Outcome::Conditional => reduce_conditional(src, at, size, depth, settings, out, pos),
     }
+}
+
+// A flagged conditional. Its arms are reduced first, behind records for itself and its test, which is copied only where an arm is left:
+// "both gone leaves the reduced test".
+fn reduce_conditional(
+    src: &[u8],
+    at: usize,
+    size: usize,
+    depth: usize,
+    settings: u8,
+    out: &mut [u8],
+    pos: usize,
+) -> usize
+    requires { ⌜ GivenConditional (now src) at size depth (settingsWith settings) pos (recordsIn (now out)) ⌝ }
+    ensures { λ r. ⌜ ReducedTree (now (src .entry)) at size depth (settingsWith settings) (now (out .entry)) (now (out .exit)) pos r ⌝ }
+{
+    let below = depth - 1;
+    let test = at + 1;
+    let test_size = fields::subtree_at(src, test);
+    let first = test + test_size;
+    let first_size = fields::subtree_at(src, first);
+    let second = first + first_size;
+    let second_size = size - 1 - test_size - first_size;
+    let arms = pos + 1 + test_size;
+    let middle = remove_unused_expression(src, first, first_size, below, settings, out, arms);
+    let end = remove_unused_expression(src, second, second_size, below, settings, out, middle);
+    if end == arms {
+        return remove_unused_expression(src, test, test_size, below, settings, out, pos);
+    }
+    output::copy_records(src, test, test_size, out, pos + 1);
+    rewrite::join_arms(src, at, out, pos, arms, middle, end)
 }
 
 // A node that is rewritten over the list of what is left of its children, which stands behind the free record at pos.

@@ -26,7 +26,12 @@ pub enum Reduced {
 pub fn reduce(src: &[u8], out: &mut [u8]) -> Reduced
     ensures { λ r. ⌜ Answers (now (src .entry)) (now (out .entry)) (now (out .exit)) r ⌝ }
 {
-    let checked = file::check(src, file::REDUCE_RECORDS, file::REDUCE_DEPTH);
+    let checked = file::check(
+        src,
+        file::REDUCE_RECORDS,
+        file::REDUCE_DEPTH,
+        file::REDUCE_LOGICALS,
+    );
     match checked {
         Checked::Refused(number) => Reduced::Refused(number),
         Checked::Accepted { settings, count } => {

@@ -1,4 +1,5 @@
 pub mod Made
 pub mod Becomes
 pub mod Join
+pub mod Arms
 pub mod Waiting

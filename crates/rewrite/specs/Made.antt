@@ -8,7 +8,7 @@ use lib.ListN.{length}
 use Rattle.tree.specs.Tree.{Place, Tree, forest, records}
 use Rattle.tree.specs.Room.{recordsIn}
 use Rattle.rules.specs.Facts.{flagged}
-use Rattle.rules.specs.Made.{made, madeHead, flagOf, makeSequence, makeObject, makeTemplate}
+use Rattle.rules.specs.Made.{made, madeHead, flagOf, makeTemplate}
 use Rattle.tree.specs.Kind as kind
 use Rattle.output.specs.Records.{Behind, Recorded, before-all}
 use Rattle.output.specs.Trees.{Spans, Wrote, wrote-as, recorded-node}
@@ -22,9 +22,13 @@ pub record GivenMade (out : List ℕ) (pos end : ℕ) : Type 0 where
   pub small : end < pos + 65536
 
 -- Record pos was made over whatever list stands behind it; all behind that record is as it was.
-pub record MadeOver (old new : List ℕ) (pos end kind facts : ℕ) (place : Place) : Type 0 where
-  pub by : (ts : List Tree) → Spans old (pos + 1) end ts → Wrote old new pos end (made kind facts place ts ∷ [])
+pub record MadeOver (old new : List ℕ) (pos end kind sub facts : ℕ) (place : Place) : Type 0 where
+  pub by : (ts : List Tree) → Spans old (pos + 1) end ts → Wrote old new pos end (made kind sub facts place ts ∷ [])
   pub above : Behind old new (pos + 1)
+
+-- "flag set if a child's is"
+abbrev pub makeFlagged : ℕ → ℕ → Place → List Tree → Tree
+makeFlagged kind sub place ts = made kind sub (flagOf ts) place ts
 
 -- The same of a rule's made node.
 pub record Makes (make : Place → List Tree → Tree) (old new : List ℕ) (pos end : ℕ) (place : Place) : Type 0 where
@@ -57,21 +61,19 @@ module _ {out : List ℕ} {pos end : ℕ} (g : GivenMade out pos end) where
   pub made-few : {n : ℕ} → Counts out (pos + 1) end n → n < 65536
   made-few c = omega (arith, c .by (g .list) (g .spans), count-few (g .list), g .spans .ends, g .small)
 
-pub made-over : {old new : List ℕ} {pos end kind facts : ℕ} {place : Place} {n z : ℕ} → Counts old (pos + 1) end n → z ≡ end - pos → Recorded old new pos (madeHead kind facts place) n z → MadeOver old new pos end kind facts place
+pub made-over : {old new : List ℕ} {pos end kind sub facts : ℕ} {place : Place} {n z : ℕ} → Counts old (pos + 1) end n → z ≡ end - pos → Recorded old new pos (madeHead kind sub facts place) n z → MadeOver old new pos end kind sub facts place
 made-over {old} {new} {pos} c ez r = record {
   by = λ ts d. recorded-node ts (before-all old pos) d r (c .by ts d) (omega (arith, d .ends));
   above = r .above;
 }
 
-module _ {old new : List ℕ} {pos end facts : ℕ} {place : Place} (f : FlagOf old (pos + 1) end facts) where
-  pub makes-sequence : MadeOver old new pos end kind.sequence facts place → Makes makeSequence old new pos end place
-  unfolding makeSequence
-  makes-sequence m = record { by = λ ts d. wrote-as (m .by ts d) (ap (λ (x : ℕ). made kind.sequence x place ts ∷ []) (f .by ts d)); above = m .above }
+pub makes-flagged : {old new : List ℕ} {pos end kind sub facts : ℕ} {place : Place} → FlagOf old (pos + 1) end facts → MadeOver old new pos end kind sub facts place
+    → Makes (makeFlagged kind sub) old new pos end place
+makes-flagged {old} {new} {pos} {end} {kind} {sub} {facts} {place} f m = record {
+  by = λ ts d. wrote-as (m .by ts d) (ap (λ (x : ℕ). made kind sub x place ts ∷ []) (f .by ts d));
+  above = m .above;
+}
 
-  pub makes-object : MadeOver old new pos end kind.object facts place → Makes makeObject old new pos end place
-  unfolding makeObject
-  makes-object m = record { by = λ ts d. wrote-as (m .by ts d) (ap (λ (x : ℕ). made kind.object x place ts ∷ []) (f .by ts d)); above = m .above }
-
-pub makes-template : {old new : List ℕ} {pos end : ℕ} {place : Place} → MadeOver old new pos end kind.template 1 place → Makes makeTemplate old new pos end place
+pub makes-template : {old new : List ℕ} {pos end : ℕ} {place : Place} → MadeOver old new pos end kind.template 0 1 place → Makes makeTemplate old new pos end place
 unfolding makeTemplate
 makes-template m = record { by = m .by; above = m .above }

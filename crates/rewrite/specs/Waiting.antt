@@ -123,7 +123,7 @@ module _ {s : List ℕ} {at size : ℕ} {old : List ℕ} {pos : ℕ} {b : Bool} 
   wrapped-gone x = record { by = λ t n z. rw (sym (f .by t n) ∙ x) (wrote-none (before-all old pos)); few = omega arith }
 
   pub wrapped-kept : b ≡ true → {mid new : List ℕ} {r : ℕ} {place : Place} {z : ℕ} → CopiedTree s at size old mid (pos + 1) r → place ≡ headAt s at .place → z ≡ size + 1
-      → Recorded mid new pos (madeHead kind.array 1 place) 1 z → Wrapped s at size old new pos r
+      → Recorded mid new pos (madeHead kind.array 0 1 place) 1 z → Wrapped s at size old new pos r
   unfolding makeArray flagOf
   wrapped-kept x {mid} {new} {r} {place} {z} c ep ez w = record { by = λ t n y. go t n y; few = omega (arith, c .ends) }
     where

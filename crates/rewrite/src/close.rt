@@ -38,7 +38,7 @@ pub fn sequence_if_any(src: &[u8], at: usize, out: &mut [u8], pos: usize, end: u
 }
 
 // The node at record at over what is left of its children; "none is removable".
-fn stays_with(src: &[u8], at: usize, out: &mut [u8], pos: usize, end: usize) -> usize
+pub fn stays_with(src: &[u8], at: usize, out: &mut [u8], pos: usize, end: usize) -> usize
     requires { ⌜ GivenList (now src) at (now out) pos end ⌝ }
     ensures { λ r. ⌜ Becomes staysWith (now (src .entry)) at (now (out .entry)) (now (out .exit)) pos end r ⌝ }
 {

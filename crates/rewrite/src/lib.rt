@@ -1,9 +1,11 @@
 // What takes a node's place: the trees that are left of its children, made into one.
+mod arms;
 mod close;
 mod join;
 mod made;
 mod waiting;
 
+pub use arms::join_arms;
 pub use close::none_one_several;
 pub use close::remove_unused_array_expr;
 pub use close::remove_unused_sequence_expr;

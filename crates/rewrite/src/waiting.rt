@@ -25,7 +25,7 @@ pub fn flush_template(out: &mut [u8], slot: usize, next: usize, place: Place)
     ensures { λ _. ⌜ Flushed makeTemplate (now (out .entry)) (now (out .exit)) slot next (asPlace place) ⌝ }
 {
     if slot < next {
-        crate::made::make_over(out, slot, next, kind::TEMPLATE as u8, 1, place);
+        crate::made::make_over(out, slot, next, kind::TEMPLATE as u8, 0, 1, place);
     }
 }
 
@@ -35,8 +35,7 @@ pub fn flush_object(out: &mut [u8], slot: usize, next: usize, place: Place)
     ensures { λ _. ⌜ Flushed makeObject (now (out .entry)) (now (out .exit)) slot next (asPlace place) ⌝ }
 {
     if slot < next {
-        let facts = crate::made::flag_of(out, slot + 1, next);
-        crate::made::make_over(out, slot, next, kind::OBJECT as u8, facts, place);
+        crate::made::make_flagged(out, slot, next, kind::OBJECT as u8, 0, place);
     }
 }
 
@@ -51,6 +50,7 @@ pub fn wrap_spread(src: &[u8], at: usize, size: usize, out: &mut [u8], pos: usiz
             out,
             pos,
             kind::ARRAY as u8,
+            0,
             1,
             fields::place_at(src, at),
             1,

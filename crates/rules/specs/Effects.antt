@@ -7,7 +7,8 @@ use Rattle.tree.specs.Tree.{Tree, Paired, recur}
 use Rattle.rules.specs.Lists.{any, keepIf, concatMap, ofTwo}
 use Rattle.rules.specs.Settings.{Settings, derived}
 use Rattle.rules.specs.Handler.{Handler, handler}
-use Rattle.rules.specs.Facts.{flagged, possibleSymbol, stringFact, isString, ofIdentifier, pureNew, pureCall}
+use Rattle.rules.specs.Facts.{flagged, possibleSymbol, stringFact, isString, ofIdentifier, pureNew, pureCall, testIsYes}
+use Rattle.rules.specs.Conditional.{testOf, armsOf, consequentOf, alternateOf}
 use Rattle.rules.specs.Class.{heritageOf, elementsOf, keyOf, staticValueOf, elements, decoratedClass, decoratedElement, nonemptyStaticBlock, arrowHeritage}
 
 -- What evaluating a node does: its effect list; and of a class element, which its class takes in two parts, what its computed key
@@ -64,6 +65,10 @@ classEffects t cs =
 abbrev pub callEffects : Bool → Tree → List Evaluated → List ℕ
 callEffects pure t cs = cond pure (childrenInOrder (drop 1 cs)) (childrenInOrder cs ++ itselfIf (flagged t) t)
 
+-- 02, N1: "The effect list has the test, then the arm run". ECMA-262: Conditional Operator and Binary Logical Operators, Evaluation.
+abbrev pub testThen : Settings → Tree → List Evaluated → List ℕ → List ℕ → List ℕ
+testThen s t cs onYes onNo = childrenInOrder (testOf cs) ++ cond (testIsYes s t) onYes onNo
+
 abbrev pub effectsBy : Handler → Settings → Tree → List Evaluated → List ℕ
 -- "kinds 1–5 ..: itself if flagged"; a leaf has no children.
 effectsBy Handler.leaf s t cs = itselfIf (flagged t) t
@@ -89,6 +94,10 @@ effectsBy Handler.otherBinary s t cs = childrenInOrder cs ++ itselfIf (flagged t
 effectsBy Handler.call s t cs = callEffects (pureCall s t) t cs
 effectsBy Handler.new s t cs = callEffects (pureNew s t) t cs
 effectsBy Handler.class s t cs = classEffects t cs
+effectsBy Handler.conditional s t cs = testThen s t cs (childrenInOrder (consequentOf cs)) (childrenInOrder (alternateOf cs))
+-- "its right side running on yes for and, on no for or"
+effectsBy Handler.logicalAnd s t cs = testThen s t cs (childrenInOrder (armsOf cs)) []
+effectsBy Handler.logicalOr s t cs = testThen s t cs [] (childrenInOrder (armsOf cs))
 effectsBy Handler.elision s t cs = []
 -- "Spread: itself if flagged."
 effectsBy Handler.spread s t cs = childrenInOrder cs ++ itselfIf (flagged t) t

@@ -7,7 +7,7 @@ use lib.Dec.{eqb}
 use Rattle.tree.specs.Tree.{Tree, trees, Paired, recur}
 use Rattle.tree.specs.Record.{bitSet, symbolPair, stringPair}
 use Rattle.rules.specs.Lists.{isEmpty, any, every, ofTwo}
-use Rattle.rules.specs.Settings.{Settings, annotations, treeShakeOnly}
+use Rattle.rules.specs.Settings.{Settings, annotations, treeShakeOnly, countsAsYes}
 use Rattle.rules.specs.Handler.{isIdentifier, isFunction, isSpread, isAddition, firstIs}
 
 -- "bit 0 effect flag"
@@ -70,3 +70,7 @@ onlySpreads t = every isSpread (trees (t .kids))
 
 unfoldable pub flaggedChild : Tree → Bool
 flaggedChild t = any flagged (trees (t .kids))
+
+-- Of a conditional or a logical: whether its test's place is among those "that count as yes".
+unfoldable pub testIsYes : Settings → Tree → Bool
+testIsYes s t = firstIs (λ test. countsAsYes s (test .head .place)) t

@@ -9,9 +9,10 @@ use Rattle.rules.specs.Lists.{any}
 
 pub data Handler : Type 0 where
   leaf this voidOrNot typeof otherUnary sequence array template object comparison addition otherBinary call new class : Handler
+  conditional logicalAnd logicalOr : Handler
   -- parts of a parent
   elision spread property element : Handler
-  -- "Left out: logical, conditional and assignment handlers": an accepted tree has no such node.
+  -- "Left out: .. assignment handlers": an accepted tree has no such node.
   leftOut : Handler
 
 -- "unary (sub 1 void, 2 not, 3 typeof, 4 other)"
@@ -21,6 +22,10 @@ unaryHandler sub = cond (eqb sub 1 || eqb sub 2) voidOrNot (cond (eqb sub 3) typ
 -- "binary (sub 1 comparison, one of the Rust's eight; 2 addition; 3 other)"
 abbrev pub binaryHandler : ℕ → Handler
 binaryHandler sub = cond (eqb sub 1) comparison (cond (eqb sub 2) addition otherBinary)
+
+-- 02, N1: "kind 20, sub 1 for and, 2 for or"
+abbrev pub logicalHandler : ℕ → Handler
+logicalHandler sub = cond (eqb sub 1) logicalAnd logicalOr
 
 unfoldable pub handler : Head → Handler
 handler h =
@@ -38,7 +43,9 @@ handler h =
     (cond (eqb (h .kind) kind.call) call
     (cond (eqb (h .kind) kind.new) new
     (cond (eqb (h .kind) kind.class) class
-    (cond (eqb (h .kind) kind.element) element leftOut))))))))))))))
+    (cond (eqb (h .kind) kind.element) element
+    (cond (eqb (h .kind) kind.logical) (logicalHandler (h .sub))
+    (cond (eqb (h .kind) kind.conditional) conditional leftOut))))))))))))))))
 
 unfoldable pub isKind : ℕ → Tree → Bool
 isKind k t = eqb (t .head .kind) k

@@ -6,6 +6,7 @@ pub mod Facts
 pub mod Made
 pub mod Addition
 pub mod Class
+pub mod Conditional
 pub mod Reduce
 pub mod Effects
 pub mod Reads

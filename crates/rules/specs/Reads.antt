@@ -13,6 +13,8 @@ use Rattle.rules.specs.Handler.{Handler, handler, isSpread, isAddition}
 use Rattle.rules.specs.Facts.{flagged, clear, possibleSymbol, stringFact, isString, ofIdentifier, pureNew, pureCall, hasSideEffectsOrPreservedIife, unchangedTemplate, onlySpreads, flaggedChild}
 use Rattle.rules.specs.Addition.{isDroppedRight, foldStringAdditionChain}
 use Rattle.rules.specs.Class.{heritage, elements, computedKey, staticValue, keptClass}
+use Rattle.rules.specs.Conditional.{armsOf}
+use Rattle.rules.specs.Reduce.{bothArmsGo}
 use Rattle.rules.specs.Effects.{effects}
 
 -- A child beside the nodes whose clear flag is read in reducing it.
@@ -55,6 +57,8 @@ readAt Handler.spread s t = keepIf (clear t) t
 readAt Handler.object s t = cond (onlySpreads t && not (flaggedChild t)) (trees (t .kids)) []
 -- "also at heritage, computed keys and static values of an extracted class"
 readAt Handler.class s t = cond (keptClass t) [] (classReads t)
+-- 02, N1: of a conditional, "Unflagged is removable"
+readAt Handler.conditional s t = keepIf (clear t) t
 -- and no other.
 readAt Handler.this s t = []
 readAt Handler.voidOrNot s t = []
@@ -64,6 +68,8 @@ readAt Handler.array s t = []
 readAt Handler.template s t = []
 readAt Handler.comparison s t = []
 readAt Handler.new s t = []
+readAt Handler.logicalAnd s t = []
+readAt Handler.logicalOr s t = []
 readAt Handler.elision s t = []
 readAt Handler.property s t = []
 readAt Handler.element s t = []
@@ -83,6 +89,8 @@ reducedChildren Handler.object s t cs = cond (onlySpreads t) [] (filter (λ c. n
 -- "A pure one loses its callee; its arguments are reduced"
 reducedChildren Handler.call s t cs = cond (pureCall s t) (drop 1 cs) []
 reducedChildren Handler.new s t cs = cond (pureNew s t) (drop 1 cs) []
+-- 02, N1: "Else both arms are reduced: both gone leaves the reduced test"
+reducedChildren Handler.conditional s t cs = cond (flagged t) (cond (bothArmsGo s t) cs (armsOf cs)) []
 -- and of no other.
 reducedChildren Handler.leaf s t cs = []
 reducedChildren Handler.this s t cs = []
@@ -90,6 +98,8 @@ reducedChildren Handler.otherUnary s t cs = []
 reducedChildren Handler.addition s t cs = []
 reducedChildren Handler.otherBinary s t cs = []
 reducedChildren Handler.class s t cs = []
+reducedChildren Handler.logicalAnd s t cs = []
+reducedChildren Handler.logicalOr s t cs = []
 reducedChildren Handler.elision s t cs = []
 reducedChildren Handler.spread s t cs = []
 reducedChildren Handler.element s t cs = []
@@ -104,6 +114,6 @@ reads s t = recur (readsRule s) t
 abbrev pub NoEffects : Settings → List Tree → Type 0
 NoEffects s ts = All (λ t. effects s t ≡ []) ts
 
--- The premise of demand 3: each clear flag that is read is true.
+-- The premise of demand 3: each clear flag that is read is true, 02, N1: "the premise being read under the same list".
 abbrev pub Premise : Settings → Tree → Type 0
 Premise s t = NoEffects s (reads s t)

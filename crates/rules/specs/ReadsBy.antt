@@ -9,6 +9,8 @@ use Rattle.rules.specs.Settings.{Settings}
 use Rattle.rules.specs.Handler.{Handler, isSpread}
 use Rattle.rules.specs.Facts.{flagged, clear, possibleSymbol, ofIdentifier, pureNew, pureCall, hasSideEffectsOrPreservedIife, unchangedTemplate, onlySpreads, flaggedChild}
 use Rattle.rules.specs.Class.{keptClass}
+use Rattle.rules.specs.Conditional.{armsOf}
+use Rattle.rules.specs.Reduce.{bothArmsGo}
 use Rattle.rules.specs.Reads.{ReadIn, readInAll, foldReads, classReads}
 
 -- A child that waits is not reduced.
@@ -32,6 +34,10 @@ readsBy Handler.otherBinary s t cs = keepIf (clear t) t
 readsBy Handler.call s t cs = cond (pureCall s t) (readInAll (drop 1 cs)) (keepIf (not (hasSideEffectsOrPreservedIife s t)) t)
 readsBy Handler.new s t cs = cond (pureNew s t) (readInAll (drop 1 cs)) []
 readsBy Handler.class s t cs = cond (keptClass t) [] (classReads t)
+-- 02, N1: the test is reduced only where both arms go.
+readsBy Handler.conditional s t cs = cond (flagged t) (readInAll (cond (bothArmsGo s t) cs (armsOf cs))) (t ∷ [])
+readsBy Handler.logicalAnd s t cs = []
+readsBy Handler.logicalOr s t cs = []
 readsBy Handler.elision s t cs = []
 readsBy Handler.spread s t cs = keepIf (clear t) t
 readsBy Handler.property s t cs = readInAll cs

@@ -1,16 +1,17 @@
 -- The rule of `remove_unused_expression`, a function for each handler, named after the Rust's. "'Reduced' means this same rule
 -- applied to a child." `reduce s t` is what is left of t: nothing if it is removable, else the one tree that is kept. (Of a
 -- property, which is a part of an object, it is what is left of its key and of its value.)
-use mathlib.Core.Bool.{cond, not}
+use mathlib.Core.Bool.{Bool, cond, not}
 use mathlib.Core.List.{List, [], _∷_, _++_}
 use lib.ListN.{drop}
-use Rattle.tree.specs.Tree.{Place, Tree, Paired, recur}
-use Rattle.rules.specs.Lists.{any, keepIf, concatMap}
+use Rattle.tree.specs.Tree.{Place, Tree, trees, Paired, recur}
+use Rattle.rules.specs.Lists.{isEmpty, any, keepIf, concatMap}
 use Rattle.rules.specs.Settings.{Settings, derived}
 use Rattle.rules.specs.Handler.{Handler, handler, isLiteral, isSpread}
 use Rattle.rules.specs.Facts.{flagged, possibleSymbol, ofIdentifier, pureNew, pureCall, hasSideEffectsOrPreservedIife, unchangedTemplate, onlySpreads, flaggedChild}
-use Rattle.rules.specs.Made.{placeOf, makeSequence, makeTemplate, makeObject, makeArray, withChildren, joinSequence}
+use Rattle.rules.specs.Made.{placeOf, makeSequence, makeTemplate, makeObject, makeArray, andSub, orSub, makeLogical, withChildren, joinSequence}
 use Rattle.rules.specs.Addition.{foldStringAdditionChain}
+use Rattle.rules.specs.Conditional.{testOf, armsOf, consequentOf, alternateOf, test}
 use Rattle.rules.specs.Class.{keptClass, extracted}
 
 -- A child beside what is left of it.
@@ -147,6 +148,20 @@ sequenceIfAny p (x ∷ xs) = makeSequence p (x ∷ xs) ∷ []
 abbrev pub removeUnusedClassExpr : Tree → List Tree
 removeUnusedClassExpr t = cond (keptClass t) (t ∷ []) (sequenceIfAny (placeOf t) (extracted t))
 
+-- 02, N1. Conditional, of what is left of its test, its consequent and its alternate: "both gone leaves the reduced test, or removable
+-- if the test goes too. One gone leaves a logical node .. of the unreduced test and the arm that stays. It takes the conditional's
+-- place: a dropped consequent gives or, a dropped alternate and. Neither gone keeps the conditional and its facts, with reduced arms."
+abbrev pub joinArms : Tree → List Tree → List Tree → List Tree → List Tree
+joinArms t q [] [] = q
+joinArms t q [] (a ∷ bs) = makeLogical orSub (placeOf t) (test t ++ (a ∷ bs)) ∷ []
+joinArms t q (c ∷ cs) [] = makeLogical andSub (placeOf t) (test t ++ (c ∷ cs)) ∷ []
+joinArms t q (c ∷ cs) (a ∷ bs) = withChildren t (test t ++ ((c ∷ cs) ++ (a ∷ bs))) ∷ []
+
+-- "Unflagged is removable. Else both arms are reduced".
+abbrev pub removeUnusedConditionalExpr : Tree → List Reduced → List Tree
+removeUnusedConditionalExpr t cs =
+    cond (flagged t) (joinArms t (kept (testOf cs)) (kept (consequentOf cs)) (kept (alternateOf cs))) []
+
 abbrev pub removeUnusedExpression : Handler → Settings → Tree → List Reduced → List Tree
 removeUnusedExpression Handler.leaf s t cs = removeUnusedLeaf t
 removeUnusedExpression Handler.this s t cs = removeUnusedThis s t
@@ -163,6 +178,10 @@ removeUnusedExpression Handler.otherBinary s t cs = removeUnusedOtherBinary t
 removeUnusedExpression Handler.call s t cs = removeUnusedCallExpr s t cs
 removeUnusedExpression Handler.new s t cs = removeUnusedNewExpr s t cs
 removeUnusedExpression Handler.class s t cs = removeUnusedClassExpr t
+removeUnusedExpression Handler.conditional s t cs = removeUnusedConditionalExpr t cs
+-- A logical node is left whole: Reduce refuses a file with one, and what it makes it does not read again.
+removeUnusedExpression Handler.logicalAnd s t cs = t ∷ []
+removeUnusedExpression Handler.logicalOr s t cs = t ∷ []
 -- Parts of a parent: "elisions and unflagged spreads go"; a property gives its key, then its value; a class reads its elements itself.
 removeUnusedExpression Handler.elision s t cs = []
 removeUnusedExpression Handler.spread s t cs = keepIf (flagged t) t
@@ -175,3 +194,7 @@ reduceRule s t cs = removeUnusedExpression (handler (t .head)) s t cs
 
 unfoldable pub reduce : Settings → Tree → List Tree
 reduce s t = recur (reduceRule s) t
+
+-- Of a conditional: "both gone", which is where its test is reduced.
+unfoldable pub bothArmsGo : Settings → Tree → Bool
+bothArmsGo s t = isEmpty (concatMap (reduce s) (armsOf (trees (t .kids))))

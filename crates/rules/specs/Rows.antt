@@ -19,7 +19,7 @@ use Rattle.rules.specs.Effects.{effects, effectsOf}
 use Rattle.rules.specs.Effects
 
 abbrev settings : Settings
-settings = record { byte = 0 }
+settings = record { byte = 0; yes = [] }
 
 -- A node of a kind, with facts, sub, text and place, over its children.
 abbrev node : ℕ → ℕ → ℕ → ℕ → ℕ → List Tree → Tree
@@ -39,6 +39,13 @@ number place = node kind.otherLeaf 10 0 9 place []
 
 abbrev spread : ℕ → ℕ → Tree
 spread facts place = node kind.spread facts 0 0 place (identifier (place + 3) ∷ [])
+
+-- A conditional at 1, with facts; `!x`.
+abbrev choice : ℕ → Tree → Tree → Tree → Tree
+choice facts q c a = node kind.conditional facts 0 0 1 (q ∷ c ∷ a ∷ [])
+
+abbrev not : ℕ → Tree
+not place = node kind.unary 0 2 0 place (identifier (place + 1) ∷ [])
 
 pub record Row : Type 0 where
   pub from : Tree
@@ -82,6 +89,18 @@ rows =
     }
     -- L `new x()`, unflagged, impure: kept
     ∷ record { from = node kind.new 0 0 0 1 (identifier 5 ∷ []); to = node kind.new 0 0 0 1 (identifier 5 ∷ []) ∷ [] }
+    -- 02, N1: `!x ? f() : 1`: `!x && f()`, its test unreduced; `!x ? 1 : f()`: `!x || f()`
+    ∷ record { from = choice 1 (not 2) (call 1 7) (number 13); to = node kind.logical 1 1 0 1 (not 2 ∷ call 1 7 ∷ []) ∷ [] }
+    ∷ record { from = choice 1 (not 2) (number 7) (call 1 13); to = node kind.logical 1 2 0 1 (not 2 ∷ call 1 13 ∷ []) ∷ [] }
+    -- `!f() ? 1 : 2`: `f()`; `!x ? 1 : 2`, and unflagged `f() ? f() : g()`: removable
+    ∷ record { from = choice 1 (node kind.unary 1 2 0 1 (call 1 2 ∷ [])) (number 8) (number 12); to = call 1 2 ∷ [] }
+    ∷ record { from = choice 1 (not 2) (number 7) (number 11); to = [] }
+    ∷ record { from = choice 0 (call 1 1) (call 1 7) (call 1 13); to = [] }
+    -- `!x ? (f(), 1) : !g()`: `!x ? (f()) : g()`, its test unreduced
+    ∷ record {
+      from = choice 31 (not 2) (node kind.sequence 1 0 0 7 (call 1 7 ∷ number 13 ∷ [])) (node kind.unary 1 2 0 17 (call 1 18 ∷ []));
+      to = choice 31 (not 2) (node kind.sequence 1 0 0 7 (call 1 7 ∷ [])) (call 1 18) ∷ [];
+    }
     ∷ []
 
 pub rows-hold : map (λ r. reduce settings (r .from)) rows ≡ map (λ r. r .to) rows
@@ -89,7 +108,7 @@ unfolding reduce tree.recur tree.each Settings.annotations Settings.treeShakeOnl
     Handler.isKind Handler.isAddition Facts.flagged Facts.stringFact Facts.isStringRule Facts.isString Facts.possibleSymbol
     Facts.annotated Facts.listed Facts.summaryFree Facts.pureNew Facts.pureCall Facts.hasSideEffectsOrPreservedIife
     Facts.ofIdentifier Facts.unchangedTemplate Facts.onlySpreads Facts.flaggedChild Made.flagOf Made.makeSequence
-    Made.makeArray Made.makeObject Made.makeTemplate Made.emptyLiteral Made.withChildren Made.joinSequence
+    Made.makeArray Made.makeObject Made.makeTemplate Made.makeLogical Made.emptyLiteral Made.withChildren Made.joinSequence
     Addition.emptiedUnlessFlagged Addition.isDroppedRight Addition.foldSides Addition.foldRule
     Addition.foldStringAdditionChain Class.decoratedClass Class.hasStaticValue Class.decoratedElement Class.indexSignature
     Class.nonemptyStaticBlock Class.flaggedStaticValue Class.lastRule Class.lastExpressionInSequence Class.arrowHeritage
@@ -115,3 +134,25 @@ unfolding reduce effects tree.recur tree.each Settings.annotations Settings.tree
     Facts.hasSideEffectsOrPreservedIife Made.withChildren Class.hasStaticValue Class.nonemptyStaticBlock Reduce.reduceRule
     Effects.itself Effects.evaluateRule Effects.evaluate
 columns = record { before = refl; after = refl; recordsBefore = refl; recordsAfter = refl }
+
+-- 02, N1: `!x ? f() : g()`, x flagged at 3, under lists of the places that count as yes: the test's own place is the one that decides.
+abbrev chosen : List ℕ → List ℕ
+chosen places = effects (record { byte = 0; yes = places }) (choice 1 (node kind.unary 0 2 0 2 (node kind.identifier 1 0 7 3 [] ∷ [])) (call 1 7) (call 1 13))
+
+abbrev chosenRows : List (List ℕ)
+chosenRows = chosen [] ∷ chosen (2 ∷ []) ∷ chosen (3 ∷ 7 ∷ 13 ∷ 1 ∷ []) ∷ chosen (9 ∷ 2 ∷ 2 ∷ []) ∷ []
+
+abbrev x : ℕ
+x = 3 * 512 + 2 * 2
+
+abbrev f : ℕ
+f = 7 * 512 + 16 * 2
+
+abbrev g : ℕ
+g = 13 * 512 + 16 * 2
+
+pub chosen-hold : chosenRows ≡ (x ∷ g ∷ []) ∷ (x ∷ f ∷ []) ∷ (x ∷ g ∷ []) ∷ (x ∷ f ∷ []) ∷ []
+unfolding effects tree.recur tree.each Settings.annotations Settings.treeShakeOnly Settings.countsAsYes Handler.handler Handler.isKind
+    Facts.flagged Facts.annotated Facts.listed Facts.summaryFree Facts.pureNew Facts.pureCall Facts.testIsYes
+    Class.hasStaticValue Class.nonemptyStaticBlock Effects.itself Effects.evaluateRule Effects.evaluate
+chosen-hold = refl

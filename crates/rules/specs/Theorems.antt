@@ -10,8 +10,8 @@ use Rattle.tree.specs.Tree.{Tree, trees, forest, one, records, levels, size, de
 use Rattle.tree.specs.Children.{wellFormed}
 use Rattle.tree.specs.File.{allEncodable}
 use Rattle.tree.specs.Refusal.{Limits, reduceLimits, listEffectsLimits}
-use Rattle.tree.specs.Accepted.{Permitted}
-use Rattle.rules.specs.Settings.{Settings}
+use Rattle.tree.specs.Accepted.{Permitted, logicals-taken}
+use Rattle.rules.specs.Settings.{Settings, given}
 use Rattle.rules.specs.Handler.{handler}
 use Rattle.rules.specs.Facts.{flagged}
 use Rattle.rules.specs.Reduce.{reduce}
@@ -19,8 +19,9 @@ use Rattle.rules.specs.Effects.{effects, effectsOf}
 use Rattle.rules.specs.Reads.{reads, Premise}
 use Rattle.rules.specs.ReadsBy.{readsBy}
 use Rattle.rules.specs.Proofs.Demand.{demand-3}
-use Rattle.rules.specs.Proofs.Accepted.{accepted, literals-clear}
+use Rattle.rules.specs.Proofs.Accepted.{accepted}
 use Rattle.rules.specs.Proofs.Effects.{whole}
+use Rattle.rules.specs.Proofs.Given.{reduce-given}
 use Rattle.rules.specs.Proofs.Scale.{byRecords, byLevels}
 use Rattle.rules.specs.Proofs.Bounds.{bounded}
 use Rattle.rules.specs.Proofs.Counts as counts
@@ -37,14 +38,14 @@ happens throws past (e ∷ es) = e ∷ cond (throws past e) [] (happens throws (
 
 -- What the limits of a tree make those of its answer.
 abbrev pub keptLimits : Limits → Limits
-keptLimits limits = record { records = 2 * limits .records - 1; depth = suc (limits .depth) }
+keptLimits limits = record { records = 2 * limits .records - 1; depth = suc (limits .depth); logicals = true }
 
 module _ (s : Settings) (t : Tree) where
   -- Demand 3: of an accepted tree, if each clear flag that is read is true, what is kept has the tree's effects, in length and at
   -- every entry; and a removable tree has none.
   module _ (well-formed : wellFormed t ≡ true) (premise : Premise s t) where
     pub same-effects : effectsOf s (reduce s t) ≡ effects s t
-    same-effects = demand-3 s t (literals-clear t (accepted t well-formed .0)) premise
+    same-effects = demand-3 s t (accepted t well-formed .0) premise
 
     pub kept-same-effects : (u : Tree) → reduce s t ≡ u ∷ [] → effects s u ≡ effects s t
     kept-same-effects u e = sym (whole s u) ∙ ap (effectsOf s) (sym e) ∙ same-effects
@@ -55,6 +56,16 @@ module _ (s : Settings) (t : Tree) where
     -- Whichever effect is the first that throws, the effects before it are the same in both.
     pub same-until-throw : (throws : List ℕ → ℕ → Bool) → happens throws [] (effectsOf s (reduce s t)) ≡ happens throws [] (effects s t)
     same-until-throw throws = ap (happens throws []) same-effects
+
+  -- 02, N1: "For every such list the effects must be equal, the premise being read under the same list"; the list changes nothing of what
+  -- is kept.
+  module _ (places : List ℕ) where
+    pub yes-unread : reduce (given places s) t ≡ reduce s t
+    yes-unread = reduce-given places s t
+
+    pub same-effects-given : wellFormed t ≡ true → Premise (given places s) t → effectsOf (given places s) (reduce s t) ≡ effects (given places s) t
+    same-effects-given well-formed premise =
+        sym (ap (effectsOf (given places s)) yes-unread) ∙ demand-3 (given places s) t (accepted t well-formed .0) premise
 
   -- Premise or not, accepted or not: at most 2 × N − 1 records, and "Result depth is at most one more".
   pub at-most-twice : records (forest (reduce s t)) ≤ 2 * size t - 1
@@ -83,6 +94,7 @@ module _ (s : Settings) (t : Tree) where
       record {
         settings-ok = p .settings-ok;
         well = (rw e at (kept-well-formed (p .well))) .0;
+        is-taken = logicals-taken (one u);
         fits = rw e at (kept-encodable (p .well) (p .fits));
         few = omega (arith, records-le, p .few);
         low = omega (arith, levels-le, p .low);

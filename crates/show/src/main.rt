@@ -21,7 +21,12 @@ fn main() {
 
 // Returns how many bytes of the buffer are still to be written.
 fn print_file(src: &[u8], out: &mut Buffer) -> u16 {
-    let checked = file::check(src, file::LIST_EFFECTS_RECORDS, file::LIST_EFFECTS_DEPTH);
+    let checked = file::check(
+        src,
+        file::LIST_EFFECTS_RECORDS,
+        file::LIST_EFFECTS_DEPTH,
+        file::LIST_EFFECTS_LOGICALS,
+    );
     match checked {
         Checked::Refused(number) => {
             let used = buffer::put_number(b"refused ", number as u64, out, 0);

@@ -41,7 +41,9 @@ pub fn put_kind(kind: usize, out: &mut Buffer, used: u16) -> u16 {
         kind::CALL => buffer::put(b"call", out, used),
         kind::NEW => buffer::put(b"new", out, used),
         kind::CLASS => buffer::put(b"class", out, used),
-        _ => buffer::put(b"element", out, used),
+        kind::ELEMENT => buffer::put(b"element", out, used),
+        kind::LOGICAL => buffer::put(b"logical", out, used),
+        _ => buffer::put(b"conditional", out, used),
     }
 }
 
@@ -52,6 +54,7 @@ pub fn put_sub(kind: usize, sub: usize, out: &mut Buffer, used: u16) -> u16 {
         kind::BINARY => put_binary(sub, out, used),
         kind::CLASS => put_class(sub, out, used),
         kind::ELEMENT => put_element(sub, out, used),
+        kind::LOGICAL => put_logical(sub, out, used),
         _ => used,
     }
 }
@@ -91,6 +94,13 @@ fn put_element(sub: usize, out: &mut Buffer, mut used: u16) -> u16 {
     used = put_if(sub, 32, b" decorated", out, used);
     used = put_if(sub, 64, b" value", out, used);
     put_if(sub, 128, b" nonempty", out, used)
+}
+
+fn put_logical(sub: usize, out: &mut Buffer, used: u16) -> u16 {
+    match sub {
+        1 => buffer::put(b" and", out, used),
+        _ => buffer::put(b" or", out, used),
+    }
 }
 
 // A word for each bit, of the pairs too: no is the lower bit of a pair, yes the upper, and a file with both is refused.

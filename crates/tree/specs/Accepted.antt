@@ -2,7 +2,7 @@
 -- an accepted file of that tree. So of the encoding a reader has to believe only `File`: `Fields` and `decode` agree with it. What is
 -- well-formed (`Record`, `Children`) and the numbers and their order (`Refusal`) are 01's rules themselves.
 use mathlib.Core.Path.{_≡_, refl, sym, ap, ap₂, subst, _∙_}
-use mathlib.Core.Bool.{Bool, true, false, _&&_}
+use mathlib.Core.Bool.{Bool, true, false, _&&_, true≢false}
 use mathlib.Core.List.{List, [], _∷_, _++_, append-nil}
 use Prim.Native.Nat.{ℕ, suc, _+_, _<_, _≤_}
 use native.Mathlib.Omega.{arith}
@@ -10,16 +10,16 @@ use lib.Dec.{eqb, leb}
 use lib.ListN.{length, getD, drop, drop-of-length-le}
 use borrow.Author.Tests.{eqb-true, eq-eqb, leb-true, le-leb, ltb-true, lt-ltb}
 use Rattle.le.specs.Le.{u16At}
-use Rattle.tree.specs.Tree.{Head, Tree, one, records, size, depth}
+use Rattle.tree.specs.Tree.{Head, Forest, nil, node, Tree, one, allHeads, records, size, depth}
 use Rattle.tree.specs.Below.{allBelow, and-both, and-left, and-right, all-at, all-of}
-use Rattle.tree.specs.Record.{recordOk, included}
+use Rattle.tree.specs.Record.{recordOk, included, logicalTaken, taken}
 use Rattle.tree.specs.Children.{nodeOk, formed, wellFormed}
 use Rattle.tree.specs.File.{preorder, le16, bytes, header, fileBytes, allEncodable}
 use Rattle.tree.specs.Fields.{versionOf, settingsOf, countOf, headAt, subtreeAt}
 use Rattle.tree.specs.Layout.{headerBytes, start}
 use Rattle.tree.specs.Room.{recordsIn, start-first, start-le, has-room}
-use Rattle.tree.specs.Refusal.{Limits, markOk, versionOk, settingsOk, countOk, recordsOk, allIncluded, shapeAt, shapeOk, decode, treeOf, depthOk, unless, refusal}
-use Rattle.tree.specs.Stands.{Stands, Tested, decoded-root, decode-stands, tested-of}
+use Rattle.tree.specs.Refusal.{Limits, markOk, versionOk, settingsOk, countOk, recordsOk, allTaken, shapeAt, shapeOk, decode, treeOf, depthOk, unless, refusal}
+use Rattle.tree.specs.Stands.{Stands, Tested, decoded-root, decode-stands, tested-of, heads-stand, heads-at}
 use Rattle.tree.specs.Encoding.{Bytes, length-file, drop-next, drop-u16, bytes-stand, encodable-stand, stand-bytes, file-bytes}
 use Rattle.tree.specs.Kind as kind
 
@@ -30,7 +30,7 @@ pub record Passed (limits : Limits) (s : List ℕ) : Type 0 where
   pub settings : settingsOk s ≡ true
   pub counted : countOk (limits .records) s ≡ true
   pub recorded : recordsOk s ≡ true
-  pub is-included : allIncluded s ≡ true
+  pub is-taken : allTaken (limits .logicals) s ≡ true
   pub shape : shapeOk s ≡ true
   pub low : depthOk (limits .depth) s ≡ true
 
@@ -47,7 +47,7 @@ unfolding refusal
 passed limits s e =
     let r8 = unless (depthOk (limits .depth) s) 8 0 in
     let r7 = unless (shapeOk s) 7 r8 in
-    let r6 = unless (allIncluded s) 6 r7 in
+    let r6 = unless (allTaken (limits .logicals) s) 6 r7 in
     let r5 = unless (recordsOk s) 5 r6 in
     let r4 = unless (countOk (limits .records) s) 4 r5 in
     let r3 = unless (settingsOk s) 3 r4 in
@@ -57,7 +57,7 @@ passed limits s e =
     let e4 = unless-next (settingsOk s) 2 r4 e3 in
     let e5 = unless-next (countOk (limits .records) s) 3 r5 e4 in
     let e6 = unless-next (recordsOk s) 4 r6 e5 in
-    let e7 = unless-next (allIncluded s) 5 r7 e6 in
+    let e7 = unless-next (allTaken (limits .logicals) s) 5 r7 e6 in
     let e8 = unless-next (shapeOk s) 6 r8 e7 in
     record {
       mark = unless-ok (markOk s) 0 r2 e;
@@ -65,7 +65,7 @@ passed limits s e =
       settings = unless-ok (settingsOk s) 2 r4 e3;
       counted = unless-ok (countOk (limits .records) s) 3 r5 e4;
       recorded = unless-ok (recordsOk s) 4 r6 e5;
-      is-included = unless-ok (allIncluded s) 5 r7 e6;
+      is-taken = unless-ok (allTaken (limits .logicals) s) 5 r7 e6;
       shape = unless-ok (shapeOk s) 6 r8 e7;
       low = unless-ok (depthOk (limits .depth) s) 7 0 e8;
     }
@@ -73,7 +73,7 @@ passed limits s e =
 unrefused : (limits : Limits) (s : List ℕ) → Passed limits s → refusal limits s ≡ 0
 unfolding refusal
 unrefused limits s p =
-    rw (p .mark, p .version, p .settings, p .counted, p .recorded, p .is-included, p .shape, p .low)
+    rw (p .mark, p .version, p .settings, p .counted, p .recorded, p .is-taken, p .shape, p .low)
 
 -- The tests of the count, taken apart.
 pub record Counted (maxRecords : ℕ) (s : List ℕ) : Type 0 where
@@ -118,26 +118,30 @@ shaped-parts s w =
     }
 
 -- The tree of a file that passes the tests of refusals 5 to 7.
-pub record Rooted (s : List ℕ) : Type 0 where
+pub record Rooted (logicals : Bool) (s : List ℕ) : Type 0 where
   pub stands : Stands s 0 (one (treeOf s))
   pub sized : size (treeOf s) ≡ countOf s
   pub well : wellFormed (treeOf s) ≡ true
+  pub is-taken : allHeads (logicalTaken logicals) (one (treeOf s)) ≡ true
 
-pub rooted : (s : List ℕ) → 1 ≤ countOf s → recordsOk s ≡ true → allIncluded s ≡ true → shapeOk s ≡ true → Rooted s
-unfolding recordsOk allIncluded treeOf wellFormed formed
-rooted s some a b c =
+pub rooted : (logicals : Bool) (s : List ℕ) → 1 ≤ countOf s → recordsOk s ≡ true → allTaken logicals s ≡ true → shapeOk s ≡ true → Rooted logicals s
+unfolding recordsOk allTaken treeOf wellFormed formed
+rooted logicals s some a b c =
     let n = countOf s in
     let q = shaped-parts s c in
     let tested : (i : ℕ) → i < n → Tested s n i = λ i l. record {
       record-ok = all-at (λ j. recordOk (headAt s j)) n a i l;
-      is-included = all-at (λ j. included (headAt s j)) n b i l;
+      is-included = and-left (included (headAt s i)) (logicalTaken logicals (headAt s i)) (all-at (λ j. taken logicals (headAt s j)) n b i l);
       shape = all-at (shapeAt s n) n (q .nodes) i l;
     } in
     let c = decoded-root s n tested (q .root) some in
+    let stands : Stands s 0 (one (treeOf s)) = (refl, sym (c .0 .counts), omega (arith, q .root, c .0 .ends), c .0 .stands, tt) in
     record {
-      stands = (refl, sym (c .0 .counts), omega (arith, q .root, c .0 .ends), c .0 .stands, tt);
+      stands = stands;
       sized = omega (arith, c .0 .ends);
       well = and-both (q .expression) (and-both (c .1) (c .0 .ok));
+      is-taken = heads-stand s (logicalTaken logicals) 0 (one (treeOf s)) stands
+          (λ i l. and-right (included (headAt s i)) (logicalTaken logicals (headAt s i)) (all-at (λ j. taken logicals (headAt s j)) n b i (omega (arith, l, c .0 .ends))));
     }
 
 -- The mark, taken apart.
@@ -186,14 +190,21 @@ header-is s bs w v =
     ∙ ap (le16 1) (drop-next s 5 6 (omega (arith, m .long)) refl
     ∙ ap (λ (r : List ℕ). settingsOf s ∷ r) (drop-u16 s bs 6 8 (countOf s) (omega (arith, m .long)) refl refl)))))
 
--- A tree that a file may hold, with settings and within limits: it is well-formed (refusals 5 to 7), its fields fit their bytes, and
--- it has at most so many records (4) and levels (8).
+-- A tree that a file may hold, with settings and within limits: it is well-formed (refusals 5 to 7), with logical nodes only where they
+-- are taken (6), its fields fit their bytes, and it has at most so many records (4) and levels (8).
 pub record Permitted (limits : Limits) (settings : ℕ) (t : Tree) : Type 0 where
   pub settings-ok : settings < 8
   pub well : wellFormed t ≡ true
+  pub is-taken : allHeads (logicalTaken (limits .logicals)) (one t) ≡ true
   pub fits : allEncodable (one t) ≡ true
   pub few : size t ≤ limits .records
   pub low : depth t ≤ limits .depth
+
+-- An operation that takes logical nodes takes every tree so far.
+pub logicals-taken : (f : Forest) → allHeads (logicalTaken true) f ≡ true
+unfolding allHeads logicalTaken
+logicals-taken nil = refl
+logicals-taken (node h cs rest) = and-both refl (and-both (logicals-taken cs) (logicals-taken rest))
 
 -- An accepted file, and its tree.
 pub record Accepted (limits : Limits) (s : List ℕ) : Type 0 where
@@ -208,7 +219,7 @@ unfolding settingsOk depthOk fileBytes
 accepted limits s bs e =
     let p = passed limits s e in
     let k = counted-parts (limits .records) s (p .counted) in
-    let r = rooted s (k .some) (p .recorded) (p .is-included) (p .shape) in
+    let r = rooted (limits .logicals) s (k .some) (p .recorded) (p .is-taken) (p .shape) in
     let all : drop headerBytes s ≡ bytes (preorder (one (treeOf s))) ++ drop (start (countOf s)) s =
     ap (λ (p : ℕ). drop p s) (sym start-first)
     ∙ bytes-stand s bs (one (treeOf s)) 0 (countOf s) (r .stands) (omega (arith, counted-room k, r .sized)) (omega (arith, r .sized)) in
@@ -221,6 +232,7 @@ accepted limits s bs e =
       permitted = record {
         settings-ok = ltb-true (settingsOf s) 8 (p .settings);
         well = r .well;
+        is-taken = r .is-taken;
         fits = encodable-stand s bs (one (treeOf s)) 0 (r .stands);
         few = omega (arith, r .sized, k .few);
         low = leb-true (depth (treeOf s)) (limits .depth) (p .low);
@@ -305,9 +317,12 @@ module _ (settings : ℕ) (t : Tree) where
     unfolding recordsOk
     records-are = all-of (λ i. recordOk (headAt s i)) (countOf s) (λ i l. tested i l .record-ok)
 
-    included-are : allIncluded s ≡ true
-    unfolding allIncluded
-    included-are = all-of (λ i. included (headAt s i)) (countOf s) (λ i l. tested i l .is-included)
+    taken-are : (logicals : Bool) → allHeads (logicalTaken logicals) (one t) ≡ true → allTaken logicals s ≡ true
+    unfolding allTaken
+    taken-are logicals h =
+        let n = count-is in
+        all-of (λ i. taken logicals (headAt s i)) (countOf s)
+        (λ i l. and-both (tested i l .is-included) (heads-at s (logicalTaken logicals) 0 (one t) stands-is h i (omega arith) (omega (arith, n))))
 
     shape-is : shapeOk s ≡ true
     unfolding shapeOk
@@ -323,7 +338,7 @@ module _ (settings : ℕ) (t : Tree) where
     settings = settings-ok-is (p .settings-ok);
     counted = counted-is (limits .records) (p .few);
     recorded = records-are (p .well);
-    is-included = included-are (p .well);
+    is-taken = taken-are (p .well) (limits .logicals) (p .is-taken);
     shape = shape-is (p .well);
     low = low-is (limits .depth) (p .low);
   })
@@ -338,10 +353,20 @@ module _ (settings : ℕ) (t : Tree) where
     tree-is = holds-tree;
   }
 
+-- A test that is passed where no logical node is taken is passed where they are.
+taken-wider : (a b : Bool) → (a ≡ true → b ≡ true) → (s : List ℕ) → allTaken a s ≡ true → allTaken b s ≡ true
+unfolding allTaken logicalTaken
+taken-wider a true w s e =
+    all-of (λ i. taken true (headAt s i)) (countOf s)
+    (λ i l. and-both (and-left (included (headAt s i)) (logicalTaken a (headAt s i)) (all-at (λ j. taken a (headAt s j)) (countOf s) e i l)) refl)
+taken-wider false false w s e = e
+taken-wider true false w s e = absurd (true≢false (sym (w refl)))
+
 -- What is accepted within limits is accepted within wider ones.
-pub wider : (low high : Limits) → low .records ≤ high .records → low .depth ≤ high .depth → (s : List ℕ) → refusal low s ≡ 0 → refusal high s ≡ 0
+pub wider : (low high : Limits) → low .records ≤ high .records → low .depth ≤ high .depth → (low .logicals ≡ true → high .logicals ≡ true)
+    → (s : List ℕ) → refusal low s ≡ 0 → refusal high s ≡ 0
 unfolding countOk depthOk
-wider low high r d s e =
+wider low high r d g s e =
     let p = passed low s e in
     let k = counted-parts (low .records) s (p .counted) in
     unrefused high s record {
@@ -350,7 +375,7 @@ wider low high r d s e =
       settings = p .settings;
       counted = and-both (and-both (le-leb 1 (countOf s) (k .some)) (le-leb (countOf s) (high .records) (omega (arith, k .few)))) (eq-eqb (length s) (start (countOf s)) (k .long));
       recorded = p .recorded;
-      is-included = p .is-included;
+      is-taken = taken-wider (low .logicals) (high .logicals) g s (p .is-taken);
       shape = p .shape;
       low = le-leb (depth (treeOf s)) (high .depth) (omega (arith, leb-true (depth (treeOf s)) (low .depth) (p .low)));
     }

@@ -14,16 +14,18 @@ heritage h = bit 1 (h .sub)
 abbrev pub elementChildren : ℕ → ℕ
 elementChildren sub = bit 4 sub + bit 6 sub
 
--- "leaves, this and elision have none; spread and unary one; binary two; call and new at least one; others as above"
+-- "leaves, this and elision have none; spread and unary one; binary two; call and new at least one; others as above"; 02, N1:
+-- "Kind 21 is accepted with children test, consequent, alternate", "Kind 20, with .. two expressions"
 unfoldable pub childCountOk : Head → ℕ → Bool
 childCountOk h n =
     cond (kind.isLeaf (h .kind) || (eqb (h .kind) kind.this || eqb (h .kind) kind.elision)) (eqb n 0)
     (cond (eqb (h .kind) kind.spread || eqb (h .kind) kind.unary) (eqb n 1)
-    (cond (eqb (h .kind) kind.binary) (eqb n 2)
+    (cond (eqb (h .kind) kind.binary || eqb (h .kind) kind.logical) (eqb n 2)
+    (cond (eqb (h .kind) kind.conditional) (eqb n 3)
     (cond (eqb (h .kind) kind.call || eqb (h .kind) kind.new) (leb 1 n)
     (cond (eqb (h .kind) kind.property) (eqb n (1 + h .sub))
     (cond (eqb (h .kind) kind.class) (leb (heritage h) n)
-    (cond (eqb (h .kind) kind.element) (eqb n (elementChildren (h .sub))) true))))))
+    (cond (eqb (h .kind) kind.element) (eqb n (elementChildren (h .sub))) true)))))))
 
 -- A node's children by the rule of their place: the first child of a call or a new is its callee, that of a class with heritage
 -- its heritage, and each of these is an expression.
@@ -46,7 +48,7 @@ abbrev pub childrenStand : Head → Bool → Forest → Bool
 childrenStand h first nil = true
 childrenStand h first (node c cs rest) = mayStand h first (c .kind) && childrenStand h false rest
 
--- A node that by itself passes the tests of 5, 6 and 7.
+-- A node that by itself passes the tests of 5, 6 and 7, in an operation that takes logical nodes.
 unfoldable pub nodeOk : Head → Forest → Bool
 nodeOk h cs = recordOk h && (included h && (childCountOk h (count cs) && childrenStand h true cs))
 
@@ -55,6 +57,6 @@ unfoldable pub formed : Forest → Bool
 formed nil = true
 formed (node h cs rest) = nodeOk h cs && (formed cs && formed rest)
 
--- A tree that passes the tests of 5, 6 and 7; "the root, is an expression".
+-- A tree that passes the tests of 5, 6 and 7, logical nodes taken; "the root, is an expression".
 unfoldable pub wellFormed : Tree → Bool
 wellFormed t = kind.isExpression (t .head .kind) && (nodeOk (t .head) (t .kids) && formed (t .kids))

@@ -73,10 +73,6 @@ assignment = 22
 abbrev pub isLeaf : ℕ → Bool
 isLeaf k = leb literal k && leb k otherLeaf
 
--- "kinds 20–22": logical, conditional and assignment, whose handlers are left out
-abbrev pub isExcluded : ℕ → Bool
-isExcluded k = leb logical k && leb k assignment
-
 -- Of the kinds, elision, spread, property and class element are parts of a parent; every other is an expression.
 abbrev pub isExpression : ℕ → Bool
 isExpression k = not (eqb k elision || (eqb k spread || (eqb k property || eqb k element)))

@@ -58,14 +58,15 @@ elementSubOk sub =
 
 -- "property (sub 0 value only; 1 key, value)", "unary (sub 1 void, 2 not, 3 typeof, 4 other)",
 -- "binary (sub 1 comparison, one of the Rust's eight; 2 addition; 3 other)", "class (sub bit 0 decorated, 1 heritage first)";
--- "Other subs are 0."
+-- 02, N1: "Kind 20, with sub 1 or 2", which 6 tells from sub 0; "Other subs are 0."
 unfoldable pub subOk : Head → Bool
 subOk h =
     cond (eqb (h .kind) kind.property) (leb (h .sub) 1)
     (cond (eqb (h .kind) kind.unary) (leb 1 (h .sub) && leb (h .sub) 4)
     (cond (eqb (h .kind) kind.binary) (leb 1 (h .sub) && leb (h .sub) 3)
     (cond (eqb (h .kind) kind.class) (leb (h .sub) 3)
-    (cond (eqb (h .kind) kind.element) (elementSubOk (h .sub)) (eqb (h .sub) 0)))))
+    (cond (eqb (h .kind) kind.element) (elementSubOk (h .sub))
+    (cond (eqb (h .kind) kind.logical) (leb (h .sub) 2) (eqb (h .sub) 0))))))
 
 -- "5 kind, facts, sub or byte 3"
 unfoldable pub recordOk : Head → Bool
@@ -73,6 +74,13 @@ recordOk h =
     (leb kind.literal (h .kind) && leb (h .kind) kind.assignment)
     && (factsOk h && (subOk h && eqb (h .reserved) 0))
 
--- "6 kinds 20–22"
+-- "6 kinds 20–22", of which 02, N1, takes conditionals, and logical nodes but for "sub 0 stays 6 in both"
 unfoldable pub included : Head → Bool
-included h = not (kind.isExcluded (h .kind))
+included h = not (eqb (h .kind) kind.assignment || (eqb (h .kind) kind.logical && eqb (h .sub) 0))
+
+-- "Kind 20 .. is read by the effect listing ..; the reducer still refuses it with 6". `logicals`: whether an operation takes such nodes.
+unfoldable pub logicalTaken : Bool → Head → Bool
+logicalTaken logicals h = logicals || not (eqb (h .kind) kind.logical)
+
+abbrev pub taken : Bool → Head → Bool
+taken logicals h = included h && logicalTaken logicals h

@@ -6,24 +6,25 @@ use lib.Dec.{eqb, leb, ltb}
 use lib.ListN.{length, getD}
 use Rattle.tree.specs.Tree.{Head, Forest, nil, node, Tree, depth}
 use Rattle.tree.specs.Below.{allBelow}
-use Rattle.tree.specs.Record.{recordOk, included}
+use Rattle.tree.specs.Record.{recordOk, taken}
 use Rattle.tree.specs.Children.{childCountOk, mayStand}
 use Rattle.tree.specs.Layout.{start}
 use Rattle.tree.specs.Fields.{versionOf, settingsOf, countOf, headAt, childrenAt, subtreeAt}
 use Rattle.tree.specs.Kind as kind
 
--- How many records and levels an operation takes.
+-- How many records and levels an operation takes, and whether it takes logical nodes.
 pub record Limits : Type 0 where
   pub records : ℕ
   pub depth : ℕ
+  pub logicals : Bool
 
--- Reduce: "4 count not 1–2,000", "8 depth over 64 (root 1)"
+-- Reduce: "4 count not 1–2,000", "8 depth over 64 (root 1)"; of kind 20 "the reducer still refuses it with 6"
 abbrev pub reduceLimits : Limits
-reduceLimits = record { records = 2000; depth = 64 }
+reduceLimits = record { records = 2000; depth = 64; logicals = false }
 
--- List effects: "1–8 likewise, but count to 3,999 and depth to 65"
+-- List effects: "1–8 likewise, but count to 3,999 and depth to 65"; kind 20 "is read by the effect listing"
 abbrev pub listEffectsLimits : Limits
-listEffectsLimits = record { records = 3999; depth = 65 }
+listEffectsLimits = record { records = 3999; depth = 65; logicals = true }
 
 -- "1 under 8 bytes or mark wrong"
 unfoldable pub markOk : List ℕ → Bool
@@ -45,9 +46,9 @@ countOk maxRecords s = (leb 1 (countOf s) && leb (countOf s) maxRecords) && eqb 
 unfoldable pub recordsOk : List ℕ → Bool
 recordsOk s = allBelow (λ i. recordOk (headAt s i)) (countOf s)
 
--- "6 kinds 20–22"
-unfoldable pub allIncluded : List ℕ → Bool
-allIncluded s = allBelow (λ i. included (headAt s i)) (countOf s)
+-- "6 kinds 20–22", by what the operation takes
+unfoldable pub allTaken : Bool → List ℕ → Bool
+allTaken logicals s = allBelow (λ i. taken logicals (headAt s i)) (countOf s)
 
 -- From record p on, k children of the node h, one behind the other by their subtree sizes, end exactly at record e, and each may
 -- stand there. `first`: whether the child at p is the first one.
@@ -95,6 +96,6 @@ refusal limits s =
     (unless (settingsOk s) 3
     (unless (countOk (limits .records) s) 4
     (unless (recordsOk s) 5
-    (unless (allIncluded s) 6
+    (unless (allTaken (limits .logicals) s) 6
     (unless (shapeOk s) 7
     (unless (depthOk (limits .depth) s) 8 0)))))))

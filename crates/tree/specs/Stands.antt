@@ -8,7 +8,7 @@ use native.Mathlib.Nat.{eq-or-lt-of-le}
 use native.Mathlib.Omega.{arith}
 use lib.Dec.{leb}
 use borrow.Author.Tests.{eqb-true, le-leb, leb-true, lt-ltb, le-ltb, eq-eqb}
-use Rattle.tree.specs.Tree.{Head, Forest, nil, node, count, records}
+use Rattle.tree.specs.Tree.{Head, Forest, nil, node, allHeads, count, records}
 use Rattle.tree.specs.Below.{and-both, and-left, and-right, lt-or-le}
 use Rattle.tree.specs.Record.{recordOk, included}
 use Rattle.tree.specs.Children.{childCountOk, mayStand, childrenStand, nodeOk, formed}
@@ -173,6 +173,27 @@ module _ (s : List ℕ) where
       let a = decode-stands fuel (p + 1) (p + suc (records cs)) cs (d .3) (omega arith) (omega arith) in
       let b = decode-stands fuel (p + suc (records cs)) e rest (d .4) (omega arith) (omega arith) in
       rw (lt-ltb p e (omega arith), m, a, b) (ap (λ (x : Head). node x cs rest) (d .0))
+
+  -- A test of each of its heads, and of each of its records.
+  pub heads-stand : (test : Head → Bool) (p : ℕ) (f : Forest) → Stands s p f → ((i : ℕ) → i < p + records f → test (headAt s i) ≡ true) → allHeads test f ≡ true
+  unfolding allHeads
+  heads-stand test p nil d h = refl
+  heads-stand test p (node k cs rest) d h =
+      and-both (subst (λ (x : Head). test x ≡ true) (d .0) (h p (omega arith)))
+      (and-both (heads-stand test (p + 1) cs (d .3) (λ i l. h i (omega arith))) (heads-stand test (p + suc (records cs)) rest (d .4) (λ i l. h i (omega arith))))
+
+  pub heads-at : (test : Head → Bool) (p : ℕ) (f : Forest) → Stands s p f → allHeads test f ≡ true → (i : ℕ) → p ≤ i → i < p + records f → test (headAt s i) ≡ true
+  unfolding allHeads
+  heads-at test p nil d w i a b = absurd (omega arith)
+  heads-at test p (node h cs rest) d w i a b =
+      let under = and-right (test h) (allHeads test cs && allHeads test rest) w in
+      ⊎-elim
+      (λ (q : p ≡ i). rw (← q) (subst (λ (x : Head). test x ≡ true) (sym (d .0)) (and-left (test h) (allHeads test cs && allHeads test rest) w)))
+      (λ (q : p < i). ⊎-elim
+      (λ (c : i < p + suc (records cs)). heads-at test (p + 1) cs (d .3) (and-left (allHeads test cs) (allHeads test rest) under) i (omega arith) (omega arith))
+      (λ (c : p + suc (records cs) ≤ i). heads-at test (p + suc (records cs)) rest (d .4) (and-right (allHeads test cs) (allHeads test rest) under) i c (omega arith))
+      (lt-or-le i (p + suc (records cs))))
+      (eq-or-lt-of-le a)
 
   -- Its nodes end where it does.
   children-end : (h : Head) (first : Bool) (p e : ℕ) (f : Forest) → Stands s p f → childrenStand h first f ≡ true → e ≡ p + records f

@@ -1,5 +1,6 @@
 -- A tree of records, and the one recursion over it that every rule uses.
 use mathlib.Core.Path.{_≡_, refl, _∙_, ap}
+use mathlib.Core.Bool.{Bool, true, _&&_}
 use mathlib.Core.List.{List, [], _∷_, map}
 use Prim.Native.Nat.{ℕ, suc, _+_, max}
 
@@ -60,6 +61,11 @@ records (node h cs rest) = suc (records cs + records rest)
 abbrev pub levels : Forest → ℕ
 levels nil = 0
 levels (node h cs rest) = max (suc (levels cs)) (levels rest)
+
+-- A test at each node of a list, and at each node under it.
+unfoldable pub allHeads : (Head → Bool) → Forest → Bool
+allHeads p nil = true
+allHeads p (node h cs rest) = p h && (allHeads p cs && allHeads p rest)
 
 -- "records in the subtree with itself"
 abbrev pub size : Tree → ℕ

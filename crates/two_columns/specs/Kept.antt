@@ -18,7 +18,7 @@ use Rattle.stated.specs.Wrote.{Wrote, wrote-none, wrote-as, front-wrote}
 use Rattle.effects.specs.Answer.{Case, refusedBy, counts, stated, number, effectList, Answers, count-within}
 use Rattle.effects.specs.declared.Listed.{Listed}
 use Rattle.effects.specs.declared.Listed.the-variants.{Refused, Count}
-use Rattle.reducer.specs.Answer.{left, rewritten, answerList, Promised}
+use Rattle.reducer.specs.Answer.{left, rewritten, answerListGiven, answerList, Promised}
 
 -- The effects of a file; none where nothing is left.
 abbrev pub effectsOf : List ℕ → List ℕ
@@ -57,7 +57,7 @@ module _ (s : List ℕ) (e : refusal reduceLimits s ≡ 0) where
   long = mark-long s (passed reduceLimits s e .mark)
 
   pub file-taken : GivenList s 4000
-  file-taken = record { taken = λ z. listed s 4000 (wider reduceLimits listEffectsLimits (omega arith) (omega arith) s e) (omega (arith, counted-parts 2000 s (passed reduceLimits s e .counted) .few)) }
+  file-taken = record { taken = λ z. listed s 4000 (wider reduceLimits listEffectsLimits (omega arith) (omega arith) (λ _. refl) s e) (omega (arith, counted-parts 2000 s (passed reduceLimits s e .counted) .few)) }
 
   pub file-effects : effectsOf s ≡ effectList s
   file-effects = effects-some s (omega (arith, long))
@@ -79,7 +79,7 @@ module _ (s : List ℕ) (p : Promised s) where
       go (t ∷ u ∷ us) x = absurd (omega (arith, p .at-most-one, ap length x))
 
   pub kept-effects : effectsOf (rewritten s) ≡ answerList s
-  unfolding rewritten answerList
+  unfolding rewritten answerListGiven
   kept-effects = go (left s) refl
     where
       go : (ts : List Tree) → left s ≡ ts → effectsOf (rewritten s) ≡ answerList s

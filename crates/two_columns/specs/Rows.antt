@@ -1,4 +1,4 @@
--- Rows, from the bytes of a file to the text: document 01's example, a removable tree, a list that ends before the other, a refusal.
+-- Rows, from the bytes of a file to the text: document 01's example, a removable tree, a list that ends before the other, a conditional, a refusal.
 use mathlib.Core.Path.{_≡_, refl}
 use mathlib.Core.List.{List, [], _∷_, map}
 use Prim.Native.Nat.{ℕ}
@@ -48,11 +48,22 @@ ended =
     16 ∷ 1 ∷ 0 ∷ 0 ∷ 1 ∷ 0 ∷ 2 ∷ 0 ∷ 0 ∷ 0 ∷ 0 ∷ 0 ∷ 1 ∷ 0 ∷ 0 ∷ 0 ∷
     2 ∷ 0 ∷ 0 ∷ 0 ∷ 0 ∷ 0 ∷ 1 ∷ 0 ∷ 1 ∷ 0 ∷ 0 ∷ 0 ∷ 1 ∷ 0 ∷ 0 ∷ 0 ∷ []
 
--- `a && b`, a kind that is not taken.
+-- `a() ? 1 : b()`, conditional and calls flagged, which becomes `a() || b()`: no place counts as yes.
+abbrev conditional : List ℕ
+conditional =
+    85 ∷ 88 ∷ 84 ∷ 1 ∷ 0 ∷ 0 ∷ 6 ∷ 0 ∷
+    21 ∷ 1 ∷ 0 ∷ 0 ∷ 3 ∷ 0 ∷ 6 ∷ 0 ∷ 0 ∷ 0 ∷ 0 ∷ 0 ∷ 0 ∷ 0 ∷ 0 ∷ 0 ∷
+    16 ∷ 1 ∷ 0 ∷ 0 ∷ 1 ∷ 0 ∷ 2 ∷ 0 ∷ 0 ∷ 0 ∷ 0 ∷ 0 ∷ 0 ∷ 0 ∷ 0 ∷ 0 ∷
+    2 ∷ 0 ∷ 0 ∷ 0 ∷ 0 ∷ 0 ∷ 1 ∷ 0 ∷ 1 ∷ 0 ∷ 0 ∷ 0 ∷ 0 ∷ 0 ∷ 0 ∷ 0 ∷
+    5 ∷ 10 ∷ 0 ∷ 0 ∷ 0 ∷ 0 ∷ 1 ∷ 0 ∷ 0 ∷ 0 ∷ 0 ∷ 0 ∷ 6 ∷ 0 ∷ 0 ∷ 0 ∷
+    16 ∷ 1 ∷ 0 ∷ 0 ∷ 1 ∷ 0 ∷ 2 ∷ 0 ∷ 0 ∷ 0 ∷ 0 ∷ 0 ∷ 10 ∷ 0 ∷ 0 ∷ 0 ∷
+    2 ∷ 0 ∷ 0 ∷ 0 ∷ 0 ∷ 0 ∷ 1 ∷ 0 ∷ 2 ∷ 0 ∷ 0 ∷ 0 ∷ 10 ∷ 0 ∷ 0 ∷ 0 ∷ []
+
+-- `a && b`, which Reduce does not take.
 abbrev logical : List ℕ
 logical =
     85 ∷ 88 ∷ 84 ∷ 1 ∷ 0 ∷ 0 ∷ 3 ∷ 0 ∷
-    20 ∷ 0 ∷ 0 ∷ 0 ∷ 2 ∷ 0 ∷ 3 ∷ 0 ∷ 0 ∷ 0 ∷ 0 ∷ 0 ∷ 0 ∷ 0 ∷ 0 ∷ 0 ∷
+    20 ∷ 0 ∷ 1 ∷ 0 ∷ 2 ∷ 0 ∷ 3 ∷ 0 ∷ 0 ∷ 0 ∷ 0 ∷ 0 ∷ 0 ∷ 0 ∷ 0 ∷ 0 ∷
     2 ∷ 0 ∷ 0 ∷ 0 ∷ 0 ∷ 0 ∷ 1 ∷ 0 ∷ 1 ∷ 0 ∷ 0 ∷ 0 ∷ 0 ∷ 0 ∷ 0 ∷ 0 ∷
     2 ∷ 0 ∷ 0 ∷ 0 ∷ 0 ∷ 0 ∷ 1 ∷ 0 ∷ 2 ∷ 0 ∷ 0 ∷ 0 ∷ 5 ∷ 0 ∷ 0 ∷ 0 ∷ []
 
@@ -65,17 +76,18 @@ rows =
     record { file = example; text = ascii "before after\n4/16/0 4/16/0\n9/9/0 9/9/0\nrecords 6 5\n" } ∷
     record { file = removable; text = ascii "before after\nrecords 1 0\n" } ∷
     record { file = ended; text = ascii "before after\n1/16/0 -\nrecords 3 0\n" } ∷
+    record { file = conditional; text = ascii "before after\n0/16/0 0/16/0\n10/16/0 10/16/0\nrecords 6 5\n" } ∷
     record { file = logical; text = ascii "refused 6\n" } ∷ []
 
 pub rows-hold : map (λ r. columns (r .file)) rows ≡ map (λ r. r .text) rows
 unfolding columns table sideBySide lines line column recordsLine refusedLine decimal digits u16At u32At tree.recur tree.each below.allBelow
-    rec.allowedFacts rec.bitsWithin rec.pairsOk rec.literalOk rec.factsOk rec.elementSubOk rec.subOk rec.recordOk rec.included
+    rec.allowedFacts rec.bitsWithin rec.pairsOk rec.literalOk rec.factsOk rec.elementSubOk rec.subOk rec.recordOk rec.included rec.logicalTaken
     children.childCountOk children.mayStand layout.width layout.span layout.start file.fileBytes file.preorder file.bytes
-    refusal.markOk refusal.versionOk refusal.settingsOk refusal.countOk refusal.recordsOk refusal.allIncluded refusal.childrenEnd
+    refusal.markOk refusal.versionOk refusal.settingsOk refusal.countOk refusal.recordsOk refusal.allTaken refusal.childrenEnd
     refusal.shapeAt refusal.shapeOk refusal.decode refusal.treeOf refusal.depthOk refusal.refusal
-    Settings.annotations Settings.treeShakeOnly Handler.handler Handler.isKind
+    Settings.annotations Settings.treeShakeOnly Settings.countsAsYes Handler.handler Handler.isKind
     Facts.flagged Facts.possibleSymbol Facts.annotated Facts.listed Facts.summaryFree Facts.pureNew Facts.pureCall
-    Facts.hasSideEffectsOrPreservedIife Made.withChildren Class.hasStaticValue Class.nonemptyStaticBlock Reduce.reduceRule Reduce.reduce
+    Facts.hasSideEffectsOrPreservedIife Facts.testIsYes Made.flagOf Made.makeLogical Made.withChildren Class.hasStaticValue Class.nonemptyStaticBlock Reduce.reduceRule Reduce.reduce
     Effects.itself Effects.evaluateRule Effects.evaluate Effects.effects
-    effects.effectList reducer.left reducer.rewritten reducer.answerList
+    effects.effectListGiven reducer.left reducer.rewritten reducer.answerListGiven
 rows-hold = refl

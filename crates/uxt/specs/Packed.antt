@@ -6,7 +6,7 @@ use native.Mathlib.Nat.{add-zero, zero-add}
 use lib.ListN.{length, getD}
 use Rattle.stated.specs.Stated.{Stated}
 use Rattle.derived.specs.Answer as derived
-use Rattle.effects.specs.Answer.{number, effectList, statedOf, entriesOf}
+use Rattle.effects.specs.Answer.{number, effectListGiven, statedOf, entriesOf}
 use Rattle.reducer.specs.Answer as reduction
 
 -- The refusal's number, 0 where there is none, stands above the 32 bits of the value, the count or the length.
@@ -28,10 +28,10 @@ pub record PackedReduction (s old new : List ℕ) (r : ℕ) : Type 0 where
   pub bytes : new ≡ reduction.bytesOf (reduction.number s (length old)) s old
   pub promised : reduction.number s (length old) ≡ 0 → reduction.Promised s
 
--- List effects: the answer, and every lent entry.
-pub record PackedListing (s old new : List ℕ) (r : ℕ) : Type 0 where
-  pub answer : r ≡ packed (statedOf (number s (length old)) (effectList s))
-  pub entries : new ≡ entriesOf (number s (length old)) (effectList s) old
+-- List effects under the places that count as yes: the answer, and every lent entry.
+pub record PackedListing (places s old new : List ℕ) (r : ℕ) : Type 0 where
+  pub answer : r ≡ packed (statedOf (number s (length old)) (effectListGiven places s))
+  pub entries : new ≡ entriesOf (number s (length old)) (effectListGiven places s) old
 
 -- A refusal, of which the value is 0, and an answer with a value.
 module _ {Case : Type 0} where

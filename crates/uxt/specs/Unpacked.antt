@@ -18,7 +18,7 @@ use Rattle.tree.specs.File.{fileBytes}
 use Rattle.tree.specs.Accepted.{accepted}
 use Rattle.rules.specs.Effects.{effects}
 use Rattle.rules.specs.Theorems.{few-effects}
-use Rattle.readings.specs.Node.{settingsWith}
+use Rattle.readings.specs.Node.{settingsGiven}
 use Rattle.effects.specs.Answer as listing
 use Rattle.reducer.specs.Answer as reduction
 use Rattle.reducer.specs.Run.{promises, unnumbered}
@@ -48,12 +48,12 @@ value-back : (n v : ℕ) → v < 4294967296 → (n * 4294967296 + v) % 429496729
 value-back n v small = omega arith
 
 -- A count is small: "count to 3,999", and a list has fewer than two effects for each record.
-count-small : (s : List ℕ) (room : ℕ) → Bytes s → listing.number s room ≡ 0 → length (listing.effectList s) < 4294967296
-unfolding listing.number listing.effectList
-count-small s room bytes none = go (refusal listEffectsLimits s) (ltb room (2 * countOf s)) refl none
+count-small : (places s : List ℕ) (room : ℕ) → Bytes s → listing.number s room ≡ 0 → length (listing.effectListGiven places s) < 4294967296
+unfolding listing.number listing.effectListGiven
+count-small places s room bytes none = go (refusal listEffectsLimits s) (ltb room (2 * countOf s)) refl none
   where
-    go : (k : ℕ) (short : Bool) → refusal listEffectsLimits s ≡ k → listing.numberBy k short ≡ 0 → length (effects (settingsWith (settingsOf s)) (treeOf s)) < 4294967296
-    go zero short e z = omega (arith, few-effects (settingsWith (settingsOf s)) (treeOf s), accepted listEffectsLimits s bytes e .permitted .few)
+    go : (k : ℕ) (short : Bool) → refusal listEffectsLimits s ≡ k → listing.numberBy k short ≡ 0 → length (effects (settingsGiven places (settingsOf s)) (treeOf s)) < 4294967296
+    go zero short e z = omega (arith, few-effects (settingsGiven places (settingsOf s)) (treeOf s), accepted listEffectsLimits s bytes e .permitted .few)
     go (suc k) short e z = omega arith
 
 -- List effects: a number, or with none the count.
@@ -65,12 +65,12 @@ unfoldable pub unpackedListing : ℕ → Stated listing.Case
 unpackedListing r = readListing (r / 4294967296) (r % 4294967296)
 
 -- So the answer of List effects is read back whole.
-pub unpacked-listing : (s : List ℕ) (room : ℕ) → Bytes s → unpackedListing (packed (listing.statedOf (listing.number s room) (listing.effectList s))) ≡ listing.statedOf (listing.number s room) (listing.effectList s)
+pub unpacked-listing : (places s : List ℕ) (room : ℕ) → Bytes s → unpackedListing (packed (listing.statedOf (listing.number s room) (listing.effectListGiven places s))) ≡ listing.statedOf (listing.number s room) (listing.effectListGiven places s)
 unfolding unpackedListing
-unpacked-listing s room bytes = go (listing.number s room) (count-small s room bytes)
+unpacked-listing places s room bytes = go (listing.number s room) (count-small places s room bytes)
   where
-    go : (k : ℕ) → (k ≡ 0 → length (listing.effectList s) < 4294967296) → unpackedListing (packed (listing.statedOf k (listing.effectList s))) ≡ listing.statedOf k (listing.effectList s)
-    go zero small = rw (number-back 0 (length (listing.effectList s)) (small refl), value-back 0 (length (listing.effectList s)) (small refl))
+    go : (k : ℕ) → (k ≡ 0 → length (listing.effectListGiven places s) < 4294967296) → unpackedListing (packed (listing.statedOf k (listing.effectListGiven places s))) ≡ listing.statedOf k (listing.effectListGiven places s)
+    go zero small = rw (number-back 0 (length (listing.effectListGiven places s)) (small refl), value-back 0 (length (listing.effectListGiven places s)) (small refl))
     go (suc k) small = rw (number-back (suc k) 0 (omega arith))
 
 -- Reduce: a number; with none, a removable tree where the length is 0, and else a kept one.

@@ -7,7 +7,12 @@ use libc::STDOUT_FILENO;
 fn main() {
     let mut input = [0u8; 32009];
     let n = io::read_full(STDIN_FILENO, &mut input);
-    print_answer(file::check(&input[..n], file::REDUCE_RECORDS, file::REDUCE_DEPTH));
+    print_answer(file::check(
+        &input[..n],
+        file::REDUCE_RECORDS,
+        file::REDUCE_DEPTH,
+        file::REDUCE_LOGICALS,
+    ));
 }
 
 fn print_answer(answer: Checked) {

@@ -5,7 +5,7 @@ use native.Mathlib.Omega.{arith}
 use borrow.Author.Tests.{not-true, not-false, eq-eqb, ne-eqb, lt-ltb, le-ltb}
 use Rattle.tree.specs.Below.{allBelow}
 use Rattle.tree.specs.Fields.{headAt}
-use Rattle.tree.specs.Record.{recordOk, included}
+use Rattle.tree.specs.Record.{recordOk, taken}
 use Rattle.tree.specs.Refusal.{markOk, versionOk, settingsOk, shapeOk}
 use Rattle.tree.specs.Accepted.{mark-long}
 use Rattle.file.specs.Answer.{limitsOf}
@@ -25,7 +25,7 @@ set-ok : (c : tie.Else3) → settingsOk (c .before .before .before .before .befo
 unfolding settingsOk
 set-ok c = lt-ltb _ 8 (c .if3 .left)
 
-headed : (c : tie.Else4) → Headed (limitsOf (c .before .before .before .before .before .before .before .before .before .before .args .records) (c .before .before .before .before .before .before .before .before .before .before .args .depth)) (c .before .before .before .before .before .before .before .before .before .before .args .src .now) (c .before .before .get162 .result)
+headed : (c : tie.Else4) → Headed (limitsOf (c .before .before .before .before .before .before .before .before .before .before .args .records) (c .before .before .before .before .before .before .before .before .before .before .args .depth) (c .before .before .before .before .before .before .before .before .before .before .args .logicals)) (c .before .before .before .before .before .before .before .before .before .before .args .src .now) (c .before .before .get162 .result)
 headed c = record {
   mark = marked (c .before .before .before .before .before .before .before);
   version = versioned (c .before .before .before .before .before);
@@ -37,8 +37,8 @@ headed c = record {
 recorded : (c : tie.Else5) → allBelow (λ i. recordOk (headAt (c .before .before .before .before .before .before .before .before .before .before .before .before .args .src .now) i)) (c .before .before .before .before .get162 .result) ≡ true
 recorded c = sym (c .before .records-ok .ensures) ∙ not-false _ (c .if5 .left)
 
-inside : (c : tie.Else6) → allBelow (λ i. included (headAt (c .before .before .before .before .before .before .before .before .before .before .before .before .before .before .args .src .now) i)) (c .before .before .before .before .before .before .get162 .result) ≡ true
-inside c = sym (c .before .all-included .ensures) ∙ not-false _ (c .if6 .left)
+inside : (c : tie.Else6) → allBelow (λ i. taken (c .before .before .before .before .before .before .before .before .before .before .before .before .before .before .args .logicals) (headAt (c .before .before .before .before .before .before .before .before .before .before .before .before .before .before .args .src .now) i)) (c .before .before .before .before .before .before .get162 .result) ≡ true
+inside c = sym (c .before .all-taken .ensures) ∙ not-false _ (c .if6 .left)
 
 shaped : (c : tie.Else7) → shapeOk (c .before .before .before .before .before .before .before .before .before .before .before .before .before .before .before .before .args .src .now) ≡ true
 shaped c = sym (c .before .shape-ok .ensures) ∙ not-false _ (c .if7 .left)
@@ -78,11 +78,11 @@ records-ok-requires c κs = headed-inside (headed c)
 returns-5 : tie.Need-returns-5
 returns-5 c = refused-5 (headed (c .before .before)) (sym (c .before .records-ok .ensures) ∙ not-true _ (c .if5 .taken))
 
-all-included-requires : tie.Need-all-included-requires
-all-included-requires c κs = headed-inside (headed (c .before .before))
+all-taken-requires : tie.Need-all-taken-requires
+all-taken-requires c κs = headed-inside (headed (c .before .before))
 
 returns-6 : tie.Need-returns-6
-returns-6 c = refused-6 (headed (c .before .before .before .before)) (recorded (c .before .before)) (sym (c .before .all-included .ensures) ∙ not-true _ (c .if6 .taken))
+returns-6 c = refused-6 (headed (c .before .before .before .before)) (recorded (c .before .before)) (sym (c .before .all-taken .ensures) ∙ not-true _ (c .if6 .taken))
 
 shape-ok-requires : tie.Need-shape-ok-requires
 shape-ok-requires c κs = (headed-inside (headed (c .before .before .before .before)), (headed (c .before .before .before .before)) .isN, headed-some (headed (c .before .before .before .before)))
@@ -114,7 +114,7 @@ check-spec =
     returns-4
     records-ok-requires
     returns-5
-    all-included-requires
+    all-taken-requires
     returns-6
     shape-ok-requires
     returns-7

@@ -1,6 +1,6 @@
 use Rattle.rules.specs.Settings.{derived}
 use Rattle.handlers.specs.Choice.{stays}
-use Rattle.handlers.specs.Kinds.{handles-zero, handles-leaf, handles-this, handles-array, handles-elision, handles-spread, handles-object, handles-property, handles-template, handles-sequence, handles-unary, handles-binary, handles-call, handles-new, handles-class, handles-other}
+use Rattle.handlers.specs.Kinds.{handles-zero, handles-leaf, handles-this, handles-array, handles-elision, handles-spread, handles-object, handles-property, handles-template, handles-sequence, handles-unary, handles-binary, handles-call, handles-new, handles-class, handles-conditional, handles-other}
 use borrow.Author.Needs.{needs}
 use Rattle.readings.specs.Own.{tells-flagged}
 use Rattle.handlers.proofs.handle.Statement.{statement}
@@ -51,6 +51,9 @@ remove-unused-new-expr-requires c κs = search needs
 remove-unused-class-expr-requires : tie.Need-remove-unused-class-expr-requires
 remove-unused-class-expr-requires c κs = search needs
 
+remove-unused-conditional-expr-requires : tie.Need-remove-unused-conditional-expr-requires
+remove-unused-conditional-expr-requires c κs = search needs
+
 returns-3 : tie.Need-returns-3
 unfolding derived
 returns-3 c = handles-this _ _ (c .before .before .before .kind-at .ensures .0) (c .before .match .keys1) (record { by = λ t d. c .stays-if2 .ensures })
@@ -92,7 +95,10 @@ returns-15 : tie.Need-returns-15
 returns-15 c = handles-class _ _ (c .before .before .before .kind-at .ensures .0) (c .before .match .keys13) (c .remove-unused-class-expr .ensures)
 
 returns-16 : tie.Need-returns-16
-returns-16 c = handles-other _ _ (c .before .before .kind-at .ensures .0) (c .before .if1 .left) (c .match .rest .0 .0 .0 .0 .0 .0 .0 .0 .0 .0 .0 .0 .1) (c .match .rest .0 .0 .0 .0 .0 .0 .0 .0 .0 .0 .0 .1) (c .match .rest .0 .0 .0 .0 .0 .0 .0 .0 .0 .0 .1) (c .match .rest .0 .0 .0 .0 .0 .0 .0 .0 .0 .1) (c .match .rest .0 .0 .0 .0 .0 .0 .0 .0 .1) (c .match .rest .0 .0 .0 .0 .0 .0 .0 .1) (c .match .rest .0 .0 .0 .0 .0 .0 .1) (c .match .rest .0 .0 .0 .0 .0 .1) (c .match .rest .0 .0 .0 .0 .1) (c .match .rest .0 .0 .0 .1) (c .match .rest .0 .0 .1) (c .match .rest .0 .1) (c .match .rest .1)
+returns-16 c = handles-conditional _ _ (c .before .before .before .kind-at .ensures .0) (c .before .match .keys14) (c .remove-unused-conditional-expr .ensures)
+
+returns-17 : tie.Need-returns-17
+returns-17 c = handles-other _ _ (c .before .before .kind-at .ensures .0) (c .before .if1 .left) (c .match .rest .0 .0 .0 .0 .0 .0 .0 .0 .0 .0 .0 .0 .0 .1) (c .match .rest .0 .0 .0 .0 .0 .0 .0 .0 .0 .0 .0 .0 .1) (c .match .rest .0 .0 .0 .0 .0 .0 .0 .0 .0 .0 .0 .1) (c .match .rest .0 .0 .0 .0 .0 .0 .0 .0 .0 .0 .1) (c .match .rest .0 .0 .0 .0 .0 .0 .0 .0 .0 .1) (c .match .rest .0 .0 .0 .0 .0 .0 .0 .0 .1) (c .match .rest .0 .0 .0 .0 .0 .0 .0 .1) (c .match .rest .0 .0 .0 .0 .0 .0 .1) (c .match .rest .0 .0 .0 .0 .0 .1) (c .match .rest .0 .0 .0 .0 .1) (c .match .rest .0 .0 .0 .1) (c .match .rest .0 .0 .1) (c .match .rest .0 .1) (c .match .rest .1)
 
 pub handle-spec : {M : Type 1} → statement M
 handle-spec =
@@ -113,6 +119,7 @@ handle-spec =
     remove-unused-call-expr-requires
     remove-unused-new-expr-requires
     remove-unused-class-expr-requires
+    remove-unused-conditional-expr-requires
     returns-3
     returns-4
     returns-5
@@ -126,4 +133,5 @@ handle-spec =
     returns-13
     returns-14
     returns-15
-    returns-16)
+    returns-16
+    returns-17)

@@ -1,5 +1,5 @@
 -- Well-formed trees, as refusals 5 to 7 leave them, and trees that are accepted node by node: the same.
-use mathlib.Core.Bool.{true, _&&_}
+use mathlib.Core.Bool.{true, false, _&&_}
 use mathlib.Core.Path.{_≡_, refl}
 use lib.Dec.{eqb, leb}
 use borrow.Author.Tests.{eqb-true}
@@ -8,10 +8,10 @@ use Rattle.tree.specs.Kind as kind
 use Rattle.tree.specs.Below.{and-both, and-left, and-right}
 use Rattle.tree.specs.Record.{recordOk, factsOk, literalOk, pairsOk, bitsWithin, allowedFacts, subOk}
 use Rattle.tree.specs.Children.{nodeOk, formed, wellFormed}
-use Rattle.rules.specs.Handler.{isKind}
+use Rattle.rules.specs.Handler.{isKind, isLiteral}
+use Rattle.rules.specs.Facts.{flagged}
 use Rattle.rules.specs.Proofs.Everywhere.{EverywhereIn, Everywhere, everywhere-map}
 use Rattle.rules.specs.Proofs.Facts.{eighteen-clear}
-use Rattle.rules.specs.Proofs.Demand.{LiteralClear}
 use Rattle.rules.specs.Proofs.Shape.{isExpr, NodeGood, good-head}
 
 -- An expression that is accepted with all that is under it.
@@ -44,7 +44,10 @@ pub well-formed : (t : Tree) → Expr t → wellFormed t ≡ true
 unfolding wellFormed
 well-formed t g = and-both (g .1) (and-both (g .0 .0) (everywhere-formed (t .kids) (g .0 .1)))
 
--- "A literal has exactly 18."
+-- A literal is unflagged, as "A literal has exactly 18" says.
+abbrev pub LiteralClear : Tree → Type 0
+LiteralClear t = isLiteral t ≡ true → flagged t ≡ false
+
 literal-clear : (t : Tree) → NodeGood t → LiteralClear t
 unfolding recordOk factsOk literalOk isKind
 literal-clear t g l =

@@ -5,6 +5,7 @@ use mathlib.Core.Path.{_≡_, refl, sym, _∙_, ap, subst}
 use Prim.Native.Nat.{ℕ, suc, _≤_, zero-le, suc-le-suc}
 use native.Mathlib.Nat.{le-refl, le-trans, le-step, le-of-eq}
 use lib.ListN.{take, drop}
+use lib.Dec.{eqb}
 use Rattle.tree.specs.Below.{and-left, and-right}
 use Rattle.tree.specs.Tree.{Place, Tree, trees, forest, All, ind}
 use Rattle.tree.specs.Record.{bit}
@@ -12,11 +13,12 @@ use Rattle.rules.specs.Lists.{any, every, keepIf, filter, concatMap}
 use Rattle.rules.specs.Settings.{Settings, derived}
 use Rattle.rules.specs.Handler.{Handler, handler, isLiteral, isSpread, isSequence}
 use Rattle.rules.specs.Facts.{flagged, stringFact, isString, possibleSymbol, pureNew, pureCall, hasSideEffectsOrPreservedIife, ofIdentifier, unchangedTemplate, onlySpreads, flaggedChild}
-use Rattle.rules.specs.Made.{placeOf, makeSequence, makeTemplate, makeObject, makeArray, emptyLiteral, withChildren, joined, joinSequence}
+use Rattle.rules.specs.Made.{placeOf, makeSequence, makeTemplate, makeObject, makeArray, andSub, orSub, makeLogical, emptyLiteral, withChildren, joined, joinSequence}
 use Rattle.rules.specs.Addition.{emptiedUnlessFlagged, isDroppedRight, foldSides, foldStringAdditionChain}
 use Rattle.rules.specs.Class as class
-use Rattle.rules.specs.Reduce.{Reduced, kept, noneOneSeveral, staysWith, flush, flushTemplateBefore, transformTemplate, transformObject, joinKept, sequenceIfAny, foldArgument, foldArgumentsIntoNeededExpressions, withoutCallee, removeUnusedArrayExpr, removeUnusedExpression, reduce}
-use Rattle.rules.specs.Proofs.Lists.{by-cond, all-drop, always, drop-map}
+use Rattle.rules.specs.Conditional.{testOf, armsOf, consequentOf, alternateOf, test}
+use Rattle.rules.specs.Reduce.{Reduced, kept, noneOneSeveral, staysWith, flush, flushTemplateBefore, transformTemplate, transformObject, joinKept, sequenceIfAny, foldArgument, foldArgumentsIntoNeededExpressions, withoutCallee, removeUnusedArrayExpr, joinArms, removeUnusedExpression, reduce}
+use Rattle.rules.specs.Proofs.Lists.{by-cond, all-take, all-drop, always, take-map, drop-map}
 use Rattle.rules.specs.Proofs.Unfold.{reduced, reduce-is, kept-is}
 use Rattle.rules.specs.Proofs.Facts.{sequence-handled, spread-handled, addition-handled, array-handled, empty-handled, made-template-unchanged, made-object-only-spreads}
 use Rattle.rules.specs.Proofs.Addition.{Sides, NoSides, by-chain, fold-sides}
@@ -230,6 +232,31 @@ module _ (S : Scale) (s : Settings) where
       (sum-filter S (whole S s) flagged (class.heritage t))
       (sum-concatMap S (whole S s) class.extractedOfElement (parts S s) (class.elements t) (always element-le (class.elements t)))
 
+  -- Conditionals: a logical is left whole.
+  made-logical : (sub : ℕ) (p : Place) (ts : List Tree) → whole S s (makeLogical sub p ts) ≡ suc (sum S (own S) ts)
+  unfolding makeLogical handler
+  made-logical sub p ts =
+      whole-made S s (makeLogical sub p ts .head) ts
+      ∙ by-cond (λ k. wholeBy S s k (makeLogical sub p ts) (map (measured S s) ts) ≡ suc (sum S (own S) ts)) (eqb sub andSub) Handler.logicalAnd Handler.logicalOr
+      (λ _. own-made S (makeLogical sub p ts .head) ts) (λ _. own-made S (makeLogical sub p ts .head) ts)
+
+  logical-le : (sub : ℕ) (p : Place) (xs ys : List Tree) (m n : ℕ) → potentialOf xs ≤ m → potentialOf ys ≤ n → potentialOf (makeLogical sub p (xs ++ ys) ∷ []) ≤ suc (S .plus m n)
+  logical-le sub p xs ys m n x y =
+      rw (one (makeLogical sub p (xs ++ ys)), made-logical sub p (xs ++ ys))
+      (suc-le-suc (le-trans (sum-le S (own S) (whole S s) (xs ++ ys) (always (λ t. between S s t .low) (xs ++ ys))) (append-le xs ys m n x y)))
+
+  arms-le : (t : Tree) (q cs bs : List Tree) (l m n : ℕ) → handler (t .head) ≡ Handler.conditional → potentialOf q ≤ l → potentialOf (test t) ≤ l → potentialOf cs ≤ m → potentialOf bs ≤ n
+      → potentialOf (joinArms t q cs bs) ≤ suc (S .plus l (S .plus m n))
+  arms-le t q [] [] l m n e hq ht hc ha = le-step (le-trans hq (left-le S l (S .plus m n)))
+  arms-le t q [] (a ∷ bs) l m n e hq ht hc ha =
+      le-trans (logical-le orSub (placeOf t) (test t) (a ∷ bs) l n ht ha) (suc-le-suc (S .mono (le-refl l) (right-le S m n)))
+  arms-le t q (c ∷ cs) [] l m n e hq ht hc ha =
+      le-trans (logical-le andSub (placeOf t) (test t) (c ∷ cs) l m ht hc) (suc-le-suc (S .mono (le-refl l) (left-le S m n)))
+  arms-le t q (c ∷ cs) (a ∷ bs) l m n e hq ht hc ha =
+      let xs = test t ++ ((c ∷ cs) ++ (a ∷ bs)) in
+      le-trans (le-of-eq (one (withChildren t xs) ∙ stays-by t Handler.conditional xs e ∙ overParts-is S s xs))
+      (suc-le-suc (append-le (test t) ((c ∷ cs) ++ (a ∷ bs)) l (S .plus m n) ht (append-le (c ∷ cs) (a ∷ bs) m n hc ha)))
+
   -- One test on both sides.
   both : (b : Bool) (x y : List Tree) (m n : ℕ) → (b ≡ true → potentialOf x ≤ m) → (b ≡ false → potentialOf y ≤ n) → potentialOf (cond b x y) ≤ cond b m n
   both true x y m n f g = f refl
@@ -267,6 +294,16 @@ module _ (S : Scale) (s : Settings) where
         (le-trans (le-trans (right-le S (sum S (mixed S s isSpread) (take 1 ts)) (sum S (mixed S s isSpread) (drop 1 ts))) (le-of-eq (sum-split S (mixed S s isSpread) 1 ts)))
         (right-le S (S .grow 0) (sum S (mixed S s isSpread) ts)))))
 
+    conditional-le : handler (t .head) ≡ Handler.conditional → potentialOf (joinArms t (kept (testOf reductions)) (kept (consequentOf reductions)) (kept (alternateOf reductions))) ≤ overParts S s measures
+    conditional-le e =
+        let arms = all-drop NotRaised 1 ts hs in
+        rw (overParts-is S s ts, take-map (reduced s) 1 ts, drop-map (reduced s) 1 ts, take-map (reduced s) 1 (drop 1 ts), drop-map (reduced s) 1 (drop 1 ts))
+        (le-trans (arms-le t (kept (map (reduced s) (testOf ts))) (kept (map (reduced s) (consequentOf ts))) (kept (map (reduced s) (alternateOf ts)))
+        (potentialOf (testOf ts)) (potentialOf (consequentOf ts)) (potentialOf (alternateOf ts)) e
+        (kept-le (testOf ts) (all-take NotRaised 1 ts hs)) (le-refl (potentialOf (testOf ts)))
+        (kept-le (consequentOf ts) (all-take NotRaised 1 (drop 1 ts) arms)) (kept-le (alternateOf ts) (all-drop NotRaised 1 (drop 1 ts) arms)))
+        (le-of-eq (ap suc (ap (S .plus (potentialOf (testOf ts))) (sum-split S (whole S s) 1 (armsOf ts)) ∙ sum-split S (whole S s) 1 ts))))
+
     by-handler : (k : Handler) → handler (t .head) ≡ k → potentialOf (removeUnusedExpression k s t reductions) ≤ wholeBy S s k t measures
     by-handler Handler.leaf e = stays Handler.leaf e (flagged t)
     by-handler Handler.this e = stays Handler.this e (derived s)
@@ -299,6 +336,11 @@ module _ (S : Scale) (s : Settings) where
         both (class.keptClass t) (t ∷ []) (sequenceIfAny (placeOf t) (class.extracted t)) (own S t) (overClass S s t measures)
         (λ b. le-trans (stays Handler.class e true) (le-of-eq (rw b)))
         (λ _. rw (overClass-is S s t) (le-trans (sequence-if-any (placeOf t) (class.extracted t)) (suc-le-suc (extracted-le t))))
+    by-handler Handler.conditional e =
+        by-cond (λ l. potentialOf l ≤ overParts S s measures) (flagged t) (joinArms t (kept (testOf reductions)) (kept (consequentOf reductions)) (kept (alternateOf reductions))) []
+        (λ _. conditional-le e) (λ _. zero-le)
+    by-handler Handler.logicalAnd e = stays Handler.logicalAnd e true
+    by-handler Handler.logicalOr e = stays Handler.logicalOr e true
     by-handler Handler.elision e = zero-le
     by-handler Handler.spread e = stays Handler.spread e (flagged t)
     by-handler Handler.property e = kept-over-parts

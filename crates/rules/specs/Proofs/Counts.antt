@@ -12,10 +12,11 @@ use Rattle.tree.specs.Children as children
 use Rattle.rules.specs.Lists.{keepIf, concatMap, ofTwo}
 use Rattle.rules.specs.Settings.{Settings, derived}
 use Rattle.rules.specs.Handler.{Handler, handler}
-use Rattle.rules.specs.Facts.{flagged, stringFact, isString, possibleSymbol, ofIdentifier, pureNew, pureCall}
+use Rattle.rules.specs.Facts.{flagged, stringFact, isString, possibleSymbol, ofIdentifier, pureNew, pureCall, testIsYes}
 use Rattle.rules.specs.Class as class
-use Rattle.rules.specs.Effects.{Evaluated, effects, effectsOf, effectsBy, itself, itselfIf, coercionNumber, coercion, additionEffect, childrenInOrder, classIsEffect, callEffects}
-use Rattle.rules.specs.Proofs.Lists.{by-cond, all-map, all-take, all-drop, drop-map}
+use Rattle.rules.specs.Conditional.{armsOf, consequentOf, alternateOf}
+use Rattle.rules.specs.Effects.{Evaluated, effects, effectsOf, effectsBy, itself, itselfIf, coercionNumber, coercion, additionEffect, childrenInOrder, classIsEffect, callEffects, testThen}
+use Rattle.rules.specs.Proofs.Lists.{by-cond, all-map, all-take, all-drop, take-map, drop-map}
 use Rattle.rules.specs.Proofs.Unfold.{evaluated, effects-is, inOrder-is}
 use Rattle.rules.specs.Proofs.Effects.{coercedOf, coerced-is, staticEffects, class-is}
 use Rattle.rules.specs.Proofs.Scale.{byRecords, sum, sum-split, sum-grow, own, own-kids}
@@ -97,6 +98,27 @@ module _ (s : Settings) where
     few-addition (l ∷ r ∷ []) = addition-one t l r
     few-addition (l ∷ r ∷ x ∷ xs) = at-most-one (flagged t) (itself t)
 
+    -- A test, and one of its arms.
+    abbrev Arm : List ℕ → Type 0
+    Arm l = length l ≤ 2 * recordsOf (drop 1 ts)
+
+    few-test : (onYes onNo : List ℕ) → Arm onYes → Arm onNo → Within (testThen s t evaluations onYes onNo)
+    few-test onYes onNo y n =
+        rw (take-map (evaluated s) 1 ts, inOrder-is s (take 1 ts), length-append (effectsOf s (take 1 ts)) (cond (testIsYes s t) onYes onNo))
+        (omega (arith, few-list (take 1 ts) (all-take Few 1 ts fs), by-cond Arm (testIsYes s t) onYes onNo (λ _. y) (λ _. n), split 1 ts))
+
+    few-right : Arm (childrenInOrder (armsOf evaluations))
+    few-right = rw (drop-map (evaluated s) 1 ts, inOrder-is s (drop 1 ts)) (few-list (drop 1 ts) (all-drop Few 1 ts fs))
+
+    few-arms : Within (effectsBy Handler.conditional s t evaluations)
+    few-arms =
+        let arms = all-drop Few 1 ts fs in
+        few-test (childrenInOrder (consequentOf evaluations)) (childrenInOrder (alternateOf evaluations))
+        (rw (drop-map (evaluated s) 1 ts, take-map (evaluated s) 1 (drop 1 ts), inOrder-is s (consequentOf ts))
+        (omega (arith, few-list (consequentOf ts) (all-take Few 1 (drop 1 ts) arms), split 1 (drop 1 ts))))
+        (rw (drop-map (evaluated s) 1 ts, drop-map (evaluated s) 1 (drop 1 ts), inOrder-is s (alternateOf ts))
+        (omega (arith, few-list (alternateOf ts) (all-drop Few 1 (drop 1 ts) arms), split 1 (drop 1 ts))))
+
     few-class : Within (effectsBy Handler.class s t evaluations)
     few-class =
         let n = children.heritage (t .head) in
@@ -123,6 +145,9 @@ module _ (s : Settings) where
     by-handler Handler.call = few-call (pureCall s t)
     by-handler Handler.new = few-call (pureNew s t)
     by-handler Handler.class = few-class
+    by-handler Handler.conditional = few-arms
+    by-handler Handler.logicalAnd = few-test (childrenInOrder (armsOf evaluations)) [] few-right zero-le
+    by-handler Handler.logicalOr = few-test [] (childrenInOrder (armsOf evaluations)) zero-le few-right
     by-handler Handler.elision = zero-le
     by-handler Handler.spread = and-one (itselfIf (flagged t) t) (at-most-one (flagged t) (itself t))
     by-handler Handler.property = in-order

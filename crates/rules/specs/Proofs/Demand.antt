@@ -1,32 +1,35 @@
 -- Demand 3, handler by handler: what is kept of a node has the node's effects, if the nodes whose clear flag is read have none.
-use mathlib.Core.Bool.{Bool, true, false, cond, not}
+use mathlib.Core.Bool.{Bool, true, false, cond, not, true≢false}
 use mathlib.Core.List.{List, [], _∷_, _++_, map, append-assoc, append-nil}
-use mathlib.Core.Path.{_≡_, refl, sym, _∙_, ap, ap₂}
-use Prim.Native.Nat.{ℕ}
-use lib.ListN.{drop}
+use mathlib.Core.Path.{_≡_, refl, sym, _∙_, ap, ap₂, subst}
+use Prim.Native.Nat.{ℕ, _≤_}
+use native.Mathlib.Omega.{arith}
+use lib.Dec.{eqb}
+use lib.ListN.{length, drop}
 use borrow.Author.Tests.{not-false}
-use Rattle.tree.specs.Tree.{Place, Tree, trees, All, ind}
-use Rattle.rules.specs.Lists.{any, keepIf, concatMap, filter}
+use Rattle.tree.specs.Below.{and-right}
+use Rattle.tree.specs.Tree.{Place, Tree, trees, count, All, ind}
+use Rattle.rules.specs.Lists.{isEmpty, any, every, keepIf, concatMap, filter}
 use Rattle.rules.specs.Settings.{Settings, derived}
 use Rattle.rules.specs.Handler.{Handler, handler, isLiteral, isSpread}
-use Rattle.rules.specs.Facts.{flagged, clear, possibleSymbol, ofIdentifier, pureNew, pureCall, hasSideEffectsOrPreservedIife, unchangedTemplate, onlySpreads, flaggedChild}
-use Rattle.rules.specs.Made.{placeOf, makeSequence, makeTemplate, makeObject, makeArray, withChildren, joinSequence}
+use Rattle.rules.specs.Facts.{flagged, clear, possibleSymbol, ofIdentifier, pureNew, pureCall, hasSideEffectsOrPreservedIife, unchangedTemplate, onlySpreads, flaggedChild, testIsYes}
+use Rattle.rules.specs.Made.{placeOf, makeSequence, makeTemplate, makeObject, makeArray, andSub, orSub, makeLogical, withChildren, joinSequence}
 use Rattle.rules.specs.Addition.{foldStringAdditionChain}
 use Rattle.rules.specs.Class as class
-use Rattle.rules.specs.Reduce.{Reduced, kept, noneOneSeveral, staysWith, flush, flushTemplateBefore, transformTemplate, transformObject, joinKept, sequenceIfAny, foldArgument, foldArgumentsIntoNeededExpressions, withoutCallee, removeUnusedArrayExpr, removeUnusedExpression, reduce}
+use Rattle.rules.specs.Conditional.{testOf, armsOf, consequentOf, alternateOf}
+use Rattle.rules.specs.Reduce.{Reduced, kept, noneOneSeveral, staysWith, flush, flushTemplateBefore, transformTemplate, transformObject, joinKept, sequenceIfAny, foldArgument, foldArgumentsIntoNeededExpressions, withoutCallee, removeUnusedArrayExpr, joinArms, removeUnusedExpression, reduce, bothArmsGo}
 use Rattle.rules.specs.Effects.{Evaluated, effects, effectsOf, effectsBy, childrenInOrder, coercion, classEffects, callEffects}
 use Rattle.rules.specs.Reads.{ReadIn, readInAll, sideReads, foldReads, elementReads, classReads, reads, NoEffects, Premise}
 use Rattle.rules.specs.ReadsBy.{readInAllBut, readsBy}
-use Rattle.rules.specs.Proofs.Lists.{by-cond, all-append, all-drop, kept-all, all-concatMap, all-map, all-zip, none-all, drop-map, concatMap-same, concatMap-none, concatMap-concatMap}
+use Rattle.rules.specs.Proofs.Lists.{by-cond, all-append, all-drop, kept-all, all-concatMap, all-map, all-zip, every-all, none-all, drop-map, concatMap-same, concatMap-none, concatMap-concatMap}
 use Rattle.rules.specs.Proofs.Unfold.{reduced, evaluated, readIn, reduce-is, reads-is, effects-is, inOrder-is}
 use Rattle.rules.specs.Proofs.Everywhere.{Everywhere, kids-everywhere}
 use Rattle.rules.specs.Proofs.Facts.{literal-handled, array-handled, NotKept, not-kept, no-flagged-value}
-use Rattle.rules.specs.Proofs.Effects.{whole, effectsOf-append, own, stays-own, effects-sequence, effects-object, coercedOf, coerced-is, coercedOf-append, effects-template, effects-joined, staticEffects, class-is}
+use Rattle.rules.specs.Proofs.Effects.{whole, effectsOf-append, own, stays-own, effects-sequence, effects-object, coercedOf, coerced-is, coercedOf-append, effects-template, effects-joined, effects-conditional, effects-and, effects-or, effects-arms, staticEffects, class-is}
 use Rattle.rules.specs.Proofs.Addition.{Sides, NoSides, by-chain, fold-sides, foldReads-sides, Folds, fold-step}
-
--- A literal is unflagged, as "A literal has exactly 18" says.
-abbrev pub LiteralClear : Tree → Type 0
-LiteralClear t = isLiteral t ≡ true → flagged t ≡ false
+use Rattle.rules.specs.Proofs.Shape.{isExpr, exactly, three, NodeGood, good-kids}
+use Rattle.rules.specs.Proofs.Accepted.{LiteralClear, literals-clear}
+use Rattle.rules.specs.Proofs.Single.{at-most-one}
 
 module _ (s : Settings) where
   -- What is to be shown of a node.
@@ -205,6 +208,44 @@ module _ (s : Settings) where
           let (h₀, h₁) = split (foldReads l) (sideReads (foldStringAdditionChain l) r) (rw (foldReads-sides t l r S) at h) in
           rw (fold-sides t l r S) (fold-step s t l r (foldStringAdditionChain l) S (ih (cs .0) h₀) h₁)
 
+  -- A conditional, of each of whose arms one tree is left at most.
+  either : {A : Type 0} (b : Bool) (x : A) → cond b x x ≡ x
+  either true x = refl
+  either false x = refl
+
+  module _ (t q c a : Tree) (are : trees (t .kids) ≡ q ∷ c ∷ a ∷ []) (e : handler (t .head) ≡ Handler.conditional) where
+    arms-effects : (qs cs bs : List Tree) → length cs ≤ 1 → length bs ≤ 1 → effectsOf s cs ≡ effects s c → effectsOf s bs ≡ effects s a
+        → (isEmpty (cs ++ bs) ≡ true → effectsOf s qs ≡ effects s q) → effectsOf s (joinArms t qs cs bs) ≡ effects s q ++ cond (testIsYes s t) (effects s c) (effects s a)
+    arms-effects qs [] [] lc la hc ha hq = hq refl ∙ rw (← hc, ← ha) (sym (append-nil (effects s q)) ∙ ap (effects s q ++_) (sym (either (testIsYes s t) [])))
+    arms-effects qs [] (y ∷ []) lc la hc ha hq =
+        rw (are, ← hc, ← ha) (whole s (makeLogical orSub (placeOf t) (q ∷ y ∷ [])) ∙ effects-or s t q c a are (placeOf t) y ∙ rw (append-nil (effects s y)))
+    arms-effects qs (x ∷ []) [] lc la hc ha hq =
+        rw (are, ← hc, ← ha) (whole s (makeLogical andSub (placeOf t) (q ∷ x ∷ [])) ∙ effects-and s t q c a are (placeOf t) x ∙ rw (append-nil (effects s x)))
+    arms-effects qs (x ∷ []) (y ∷ []) lc la hc ha hq =
+        rw (are, ← hc, ← ha) (whole s (withChildren t (q ∷ x ∷ y ∷ [])) ∙ effects-arms s t q c a are e x y ∙ rw (append-nil (effects s x), append-nil (effects s y)))
+    arms-effects qs [] (y ∷ z ∷ zs) lc la hc ha hq = absurd (omega (arith, la))
+    arms-effects qs (x ∷ []) (y ∷ z ∷ zs) lc la hc ha hq = absurd (omega (arith, la))
+    arms-effects qs (x ∷ z ∷ zs) bs lc la hc ha hq = absurd (omega (arith, lc))
+
+    both-go : bothArmsGo s t ≡ isEmpty (reduce s c ++ reduce s a)
+    unfolding bothArmsGo
+    both-go = rw (are, append-nil (reduce s a))
+
+  -- What is read in a conditional: in its arms, and in its test where both go.
+  record ArmsRead (q c a : Tree) (go : Bool) : Type 0 where
+    test : go ≡ true → NoEffects s (reads s q)
+    consequent : NoEffects s (reads s c)
+    alternate : NoEffects s (reads s a)
+
+  arms-read : (q c a : Tree) (go : Bool) → NoEffects s (readInAll (cond go (map (readIn s) (q ∷ c ∷ a ∷ [])) (map (readIn s) (c ∷ a ∷ [])))) → ArmsRead q c a go
+  arms-read q c a true h =
+      let (h₀, h₁) = split (reads s q) (reads s c ++ (reads s a ++ [])) h in
+      let (h₂, h₃) = split (reads s c) (reads s a ++ []) h₁ in
+      record { test = λ _. h₀; consequent = h₂; alternate = split (reads s a) [] h₃ .0 }
+  arms-read q c a false h =
+      let (h₂, h₃) = split (reads s c) (reads s a ++ []) h in
+      record { test = λ e. absurd (true≢false (sym e)); consequent = h₂; alternate = split (reads s a) [] h₃ .0 }
+
   -- Each handler, over its children's own facts.
   module _ (t : Tree) (ks : All Keeps (trees (t .kids))) where
     abbrev ts : List Tree
@@ -289,7 +330,33 @@ module _ (s : Settings) where
         go true k h = whole s t ∙ own s t Handler.class e
         go false k h = sequence-if-any (placeOf t) (class.extracted t) ∙ extracted-effects t (not-kept t k) h
 
-    by-handler : Everywhere LiteralClear t → (k : Handler) → handler (t .head) ≡ k → NoEffects s (readsBy k s t reading)
+    keeps-conditional : Everywhere NodeGood t → handler (t .head) ≡ Handler.conditional → NoEffects s (readsBy Handler.conditional s t reading)
+        → effectsOf s (removeUnusedExpression Handler.conditional s t reductions) ≡ effects s t
+    keeps-conditional g e = go (flagged t)
+      where
+        ok : exactly 3 (t .kids) ≡ true
+        ok = good-kids t Handler.conditional e (g .0)
+
+        go : (b : Bool) → NoEffects s (cond b (readInAll (cond (bothArmsGo s t) reading (armsOf reading))) (t ∷ []))
+            → effectsOf s (cond b (joinArms t (kept (testOf reductions)) (kept (consequentOf reductions)) (kept (alternateOf reductions))) []) ≡ effects s t
+        go false h = sym (h .0)
+        go true h =
+            let T = three (t .kids) ok in
+            let q = T .test in
+            let c = T .consequent in
+            let a = T .alternate in
+            let gs : All (Everywhere NodeGood) (q ∷ c ∷ a ∷ []) = rw (T .are) at (kids-everywhere NodeGood (t .kids) (g .1)) in
+            let xs : All (λ x. isExpr x ≡ true) (q ∷ c ∷ a ∷ []) = rw (T .are) at (every-all isExpr ts (and-right (eqb (count (t .kids)) 3) (every isExpr ts) ok)) in
+            let fs : All Keeps (q ∷ c ∷ a ∷ []) = rw (T .are) at ks in
+            let R = arms-read q c a (bothArmsGo s t) (rw (T .are) at h) in
+            let hq : isEmpty (reduce s c ++ reduce s a) ≡ true → effectsOf s (reduce s q) ≡ effects s q =
+            λ z. fs .0 (R .test (both-go t q c a (T .are) e ∙ z)) in
+            rw (T .are, append-nil (reduce s q), append-nil (reduce s c), append-nil (reduce s a))
+            (arms-effects t q c a (T .are) e (reduce s q) (reduce s c) (reduce s a)
+            (at-most-one s c (gs .1 .0, xs .1 .0)) (at-most-one s a (gs .1 .1 .0, xs .1 .1 .0)) (fs .1 .0 (R .consequent)) (fs .1 .1 .0 (R .alternate)) hq
+            ∙ sym (effects-conditional s t q c a (T .are) e))
+
+    by-handler : Everywhere NodeGood t → (k : Handler) → handler (t .head) ≡ k → NoEffects s (readsBy k s t reading)
         → effectsOf s (removeUnusedExpression k s t reductions) ≡ effectsBy k s t evaluations
     by-handler c Handler.leaf e h = keeps-own Handler.leaf e (flagged t) h
     by-handler c Handler.this e h = keep-if (derived s) t (λ d. own s t Handler.this e ∙ rw d) ∙ own s t Handler.this e
@@ -301,23 +368,26 @@ module _ (s : Settings) where
     by-handler c Handler.template e h = keeps-template e h
     by-handler c Handler.object e h = keeps-object e h
     by-handler c Handler.comparison e h = join-kept (placeOf t) (kept reductions) ∙ in-order h
-    by-handler c Handler.addition e h = keeps-addition c h ∙ own s t Handler.addition e
+    by-handler c Handler.addition e h = keeps-addition (literals-clear t c) h ∙ own s t Handler.addition e
     by-handler c Handler.otherBinary e h = keeps-own Handler.otherBinary e (flagged t) h
     by-handler c Handler.call e h =
         keeps-call (pureCall s t) (own s t Handler.call e) (keepIf (hasSideEffectsOrPreservedIife s t) t) (keepIf (not (hasSideEffectsOrPreservedIife s t)) t)
         (by-flag (hasSideEffectsOrPreservedIife s t) t) h
     by-handler c Handler.new e h = keeps-call (pureNew s t) (own s t Handler.new e) (t ∷ []) [] (λ _. whole s t) h
     by-handler c Handler.class e h = keeps-class e h
+    by-handler c Handler.conditional e h = keeps-conditional c e h ∙ own s t Handler.conditional e
+    by-handler c Handler.logicalAnd e h = whole s t ∙ own s t Handler.logicalAnd e
+    by-handler c Handler.logicalOr e h = whole s t ∙ own s t Handler.logicalOr e
     by-handler c Handler.elision e h = refl
     by-handler c Handler.spread e h = keeps-own Handler.spread e (flagged t) h
     by-handler c Handler.property e h = in-order h
     by-handler c Handler.element e h = whole s t ∙ own s t Handler.element e
     by-handler c Handler.leftOut e h = whole s t ∙ own s t Handler.leftOut e
 
-  step : (t : Tree) → All (λ t. Everywhere LiteralClear t → Keeps t) (trees (t .kids)) → Everywhere LiteralClear t → Keeps t
+  step : (t : Tree) → All (λ t. Everywhere NodeGood t → Keeps t) (trees (t .kids)) → Everywhere NodeGood t → Keeps t
   step t ks c =
       rw (reduce-is s t, reads-is s t, effects-is s t)
-      (by-handler t (all-zip (λ t k c. k c) (trees (t .kids)) ks (kids-everywhere LiteralClear (t .kids) (c .1))) c (handler (t .head)) refl)
+      (by-handler t (all-zip (λ t k c. k c) (trees (t .kids)) ks (kids-everywhere NodeGood (t .kids) (c .1))) c (handler (t .head)) refl)
 
-  pub demand-3 : (t : Tree) → Everywhere LiteralClear t → Premise s t → effectsOf s (reduce s t) ≡ effects s t
-  demand-3 = ind (λ t. Everywhere LiteralClear t → Keeps t) step
+  pub demand-3 : (t : Tree) → Everywhere NodeGood t → Premise s t → effectsOf s (reduce s t) ≡ effects s t
+  demand-3 = ind (λ t. Everywhere NodeGood t → Keeps t) step

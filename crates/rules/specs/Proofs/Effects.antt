@@ -7,12 +7,13 @@ use Rattle.tree.specs.Tree.{Place, Tree, trees}
 use Rattle.rules.specs.Lists.{concatMap}
 use Rattle.rules.specs.Settings.{Settings}
 use Rattle.rules.specs.Handler.{Handler, handler, isSequence}
-use Rattle.rules.specs.Made.{makeSequence, makeTemplate, makeObject, emptyLiteral, withChildren, joined, joinSequence}
+use Rattle.rules.specs.Made.{makeSequence, makeTemplate, makeObject, andSub, orSub, makeLogical, emptyLiteral, withChildren, joined, joinSequence}
+use Rattle.rules.specs.Facts.{testIsYes}
 use Rattle.rules.specs.Class as class
-use Rattle.rules.specs.Effects.{evaluate, evaluateRule, effects, effectsOf, effectsBy, itselfIf, coercion, templateChild, childrenInOrder, classIsEffect, classEffects}
+use Rattle.rules.specs.Effects.{evaluate, evaluateRule, effects, effectsOf, effectsBy, itselfIf, coercion, templateChild, childrenInOrder, classIsEffect, classEffects, testThen}
 use Rattle.rules.specs.Proofs.Lists.{by-cond, take-map, drop-map, concatMap-append, concatMap-map, concatMap-same, always}
 use Rattle.rules.specs.Proofs.Unfold.{evaluated, evaluate-is, effects-is, effects-made, inOrder-is}
-use Rattle.rules.specs.Proofs.Facts.{empty-handled, empty-clear, sequence-handled}
+use Rattle.rules.specs.Proofs.Facts.{empty-handled, empty-clear, sequence-handled, same-test}
 
 module _ (s : Settings) where
   pub whole : (t : Tree) → effectsOf s (t ∷ []) ≡ effects s t
@@ -70,6 +71,36 @@ module _ (s : Settings) where
   pub effects-joined : (p : Place) (a b : Tree) → effects s (joinSequence p a b) ≡ effects s a ++ effects s b
   unfolding joinSequence
   effects-joined p a b = effects-sequence p (joined a b) ∙ joined-effects a b
+
+  -- A test, and what follows it: of a node u, and of a node t with the same test.
+  alone : (x : Tree) → childrenInOrder (evaluated s x ∷ []) ≡ effects s x
+  unfolding effects
+  alone x = append-nil (evaluate s x .inOrder)
+
+  test-then : (t u q : Tree) (xs ys : List Tree) → trees (t .kids) ≡ q ∷ xs → trees (u .kids) ≡ q ∷ ys → {y n y′ n′ : List ℕ} → y ≡ y′ → n ≡ n′
+      → testThen s u (map (evaluated s) (q ∷ ys)) y n ≡ effects s q ++ cond (testIsYes s t) y′ n′
+  test-then t u q xs ys e f g h = ap₂ (_++_) (alone q) (λ i. cond (same-test s u t q ys xs f e i) (g i) (h i))
+
+  -- A conditional by its parts, and what it may be made into.
+  module _ (t q c a : Tree) (are : trees (t .kids) ≡ q ∷ c ∷ a ∷ []) where
+    pub effects-conditional : handler (t .head) ≡ Handler.conditional → effects s t ≡ effects s q ++ cond (testIsYes s t) (effects s c) (effects s a)
+    effects-conditional e = own t Handler.conditional e ∙ rw are (test-then t t q (c ∷ a ∷ []) (c ∷ a ∷ []) are are (alone c) (alone a))
+
+    pub effects-and : (p : Place) (x : Tree) → effects s (makeLogical andSub p (q ∷ x ∷ [])) ≡ effects s q ++ cond (testIsYes s t) (effects s x) []
+    unfolding makeLogical handler
+    effects-and p x =
+        let u = makeLogical andSub p (q ∷ x ∷ []) in effects-made s (u .head) (q ∷ x ∷ []) ∙ test-then t u q (c ∷ a ∷ []) (x ∷ []) are refl (alone x) refl
+
+    pub effects-or : (p : Place) (x : Tree) → effects s (makeLogical orSub p (q ∷ x ∷ [])) ≡ effects s q ++ cond (testIsYes s t) [] (effects s x)
+    unfolding makeLogical handler
+    effects-or p x =
+        let u = makeLogical orSub p (q ∷ x ∷ []) in effects-made s (u .head) (q ∷ x ∷ []) ∙ test-then t u q (c ∷ a ∷ []) (x ∷ []) are refl refl (alone x)
+
+    pub effects-arms : handler (t .head) ≡ Handler.conditional → (x y : Tree) → effects s (withChildren t (q ∷ x ∷ y ∷ [])) ≡ effects s q ++ cond (testIsYes s t) (effects s x) (effects s y)
+    unfolding withChildren
+    effects-arms e x y =
+        let u = withChildren t (q ∷ x ∷ y ∷ []) in
+        stays-own t Handler.conditional e (q ∷ x ∷ y ∷ []) ∙ test-then t u q (c ∷ a ∷ []) (x ∷ y ∷ []) are refl (alone x) (alone y)
 
   -- A class by its parts.
   pub key-is : (e : Tree) → evaluate s e .key ≡ effectsOf s (class.computedKey e)

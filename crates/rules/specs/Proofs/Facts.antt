@@ -13,7 +13,7 @@ use Rattle.tree.specs.Kind as kind
 use Rattle.rules.specs.Lists.{any, every}
 use Rattle.rules.specs.Settings.{Settings, treeShakeOnly}
 use Rattle.rules.specs.Handler.{Handler, handler, isKind, isLiteral, isSpread, isSequence, isAddition, isFunction, firstIs}
-use Rattle.rules.specs.Facts.{flagged, clear, stringFact, isStringRule, isString, possibleSymbol, hasSideEffectsOrPreservedIife, unchangedTemplate, onlySpreads, flaggedChild}
+use Rattle.rules.specs.Facts.{flagged, clear, stringFact, isStringRule, isString, possibleSymbol, hasSideEffectsOrPreservedIife, unchangedTemplate, onlySpreads, flaggedChild, testIsYes}
 use Rattle.rules.specs.Made.{makeArray, makeObject, makeTemplate, emptyLiteral, withChildren}
 use Rattle.rules.specs.Addition.{isDroppedRight}
 use Rattle.rules.specs.Class.{elements, staticValue, decoratedClass, decoratedElement, indexSignature, nonemptyStaticBlock, flaggedStaticValue, arrowHeritage, keptClass}
@@ -108,6 +108,11 @@ gone-call-clear s t e = or-false-l (flagged t) (treeShakeOnly s && firstIs isFun
 pub flagged-child : (t : Tree) → flaggedChild t ≡ false → All (λ c. flagged c ≡ false) (trees (t .kids))
 unfolding flaggedChild
 flagged-child t e = none-all flagged (trees (t .kids)) e
+
+-- A test that stays a node's first child.
+pub same-test : (s : Settings) (t u q : Tree) (xs ys : List Tree) → trees (t .kids) ≡ q ∷ xs → trees (u .kids) ≡ q ∷ ys → testIsYes s t ≡ testIsYes s u
+unfolding testIsYes
+same-test s t u q xs ys e f = rw (e, f)
 
 -- What waited is left unchanged as a made template or object.
 pub made-template-unchanged : (p : Place) (x : Tree) (xs : List Tree) → every possibleSymbol (x ∷ xs) ≡ true → unchangedTemplate (makeTemplate p (x ∷ xs)) ≡ true

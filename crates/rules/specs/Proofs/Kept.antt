@@ -28,15 +28,15 @@ pub kept-well-formed : (s : Settings) (t : Tree) → wellFormed t ≡ true → A
 kept-well-formed s t e =
     let g = accepted t e in
     all-map (λ u f. well-formed u (everywhere-map (λ t (n : Node Any t). n .0) u (f .0), f .1)) (reduce s t)
-    (stays Any (λ h _ k facts _ _. tt) s t (everywhere-map and-any t (g .0), g .1))
+    (stays Any (λ h _ k sub facts _ _ _. tt) s t (everywhere-map and-any t (g .0), g .1))
 
 -- Fields that fit: of a tree node by node, and of a made node by its place.
 abbrev Fits : Head → Type 0
 Fits h = encodable h ≡ true
 
-made-fits : (h : Head) → Fits h → (k facts : ℕ) → ltb k 256 ≡ true → ltb facts 256 ≡ true → Fits (madeHead k facts (h .place))
+made-fits : (h : Head) → Fits h → (k sub facts : ℕ) → ltb k 256 ≡ true → ltb sub 256 ≡ true → ltb facts 256 ≡ true → Fits (madeHead k sub facts (h .place))
 unfolding encodable
-made-fits h f k facts ek ef = rw (ek, ef, place-fits h f)
+made-fits h f k sub facts ek es ef = rw (ek, es, ef, place-fits h f)
 
 encodable-everywhere : (f : Forest) → allEncodable f ≡ true → EverywhereIn (λ t. Fits (t .head)) f
 unfolding allEncodable

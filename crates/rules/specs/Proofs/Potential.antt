@@ -51,6 +51,10 @@ module _ (S : Scale) (s : Settings) where
   wholeBy Handler.call t cs = cond (pureCall s t) (overWaiting isSpread cs) (own S t)
   wholeBy Handler.new t cs = cond (pureNew s t) (overWaiting isSpread cs) (own S t)
   wholeBy Handler.class t cs = cond (keptClass t) (own S t) (overClass t cs)
+  -- A conditional is kept over its test, reduced later or not, and its arms; what it is made into is left whole.
+  wholeBy Handler.conditional t cs = overParts cs
+  wholeBy Handler.logicalAnd t cs = own S t
+  wholeBy Handler.logicalOr t cs = own S t
   wholeBy Handler.elision t cs = own S t
   wholeBy Handler.spread t cs = own S t
   wholeBy Handler.property t cs = overParts cs
@@ -171,6 +175,9 @@ module _ (S : Scale) (s : Settings) where
     bounded Handler.call = by-cond Bounded (pureCall s t) (overWaiting isSpread (map measured (trees (t .kids)))) (own S t) (λ _. bounded-waiting isSpread) (λ _. bounded-own)
     bounded Handler.new = by-cond Bounded (pureNew s t) (overWaiting isSpread (map measured (trees (t .kids)))) (own S t) (λ _. bounded-waiting isSpread) (λ _. bounded-own)
     bounded Handler.class = by-cond Bounded (keptClass t) (own S t) (overClass t (map measured (trees (t .kids)))) (λ _. bounded-own) (λ _. bounded-class)
+    bounded Handler.conditional = bounded-parts
+    bounded Handler.logicalAnd = bounded-own
+    bounded Handler.logicalOr = bounded-own
     bounded Handler.elision = bounded-own
     bounded Handler.spread = bounded-own
     bounded Handler.property = bounded-parts

@@ -12,6 +12,8 @@ use Rattle.rules.specs.Handler.{Handler, handler, isSpread}
 use Rattle.rules.specs.Facts.{flagged, clear, possibleSymbol, stringFact, isString, ofIdentifier, pureNew, pureCall, hasSideEffectsOrPreservedIife, unchangedTemplate, onlySpreads, flaggedChild}
 use Rattle.rules.specs.Addition.{isDroppedRight, foldStringAdditionChain}
 use Rattle.rules.specs.Class.{heritage, elements, computedKey, staticValue, keptClass}
+use Rattle.rules.specs.Conditional.{armsOf}
+use Rattle.rules.specs.Reduce.{bothArmsGo}
 use Rattle.rules.specs.Reads.{readInAll, sideReads, foldReads, elementReads, classReads, reads}
 use Rattle.rules.specs.ReadsBy.{readInAllBut, readsBy}
 use Rattle.rules.specs.Proofs.Lists.{by-cond, all-join, all-drop, all-keep, concatMap-all, always, drop-map}
@@ -76,6 +78,10 @@ module _ (s : Settings) where
     arguments-clear : AllClear (readInAll (drop 1 (map (readIn s) (trees (t .kids)))))
     arguments-clear = rw (drop-map (readIn s) 1 (trees (t .kids))) (in-all (drop 1 (trees (t .kids))) (all-drop ReadsClear 1 (trees (t .kids)) hs))
 
+    reduced-clear : (go : Bool) → AllClear (readInAll (cond go (map (readIn s) (trees (t .kids))) (armsOf (map (readIn s) (trees (t .kids))))))
+    reduced-clear true = in-all (trees (t .kids)) hs
+    reduced-clear false = arguments-clear
+
     by-handler : (k : Handler) → AllClear (readsBy k s t (map (readIn s) (trees (t .kids))))
     by-handler Handler.leaf = if-clear t
     by-handler Handler.this = tt
@@ -97,6 +103,11 @@ module _ (s : Settings) where
         (λ _. clear-if (not (hasSideEffectsOrPreservedIife s t)) t (λ e. gone-call-clear s t (not-true (hasSideEffectsOrPreservedIife s t) e)))
     by-handler Handler.new = by-cond AllClear (pureNew s t) (readInAll (drop 1 (map (readIn s) (trees (t .kids))))) [] (λ _. arguments-clear) (λ _. tt)
     by-handler Handler.class = by-cond AllClear (keptClass t) [] (classReads t) (λ _. tt) (λ _. class-clear t)
+    by-handler Handler.conditional =
+        by-cond AllClear (flagged t) (readInAll (cond (bothArmsGo s t) (map (readIn s) (trees (t .kids))) (armsOf (map (readIn s) (trees (t .kids)))))) (t ∷ [])
+        (λ _. reduced-clear (bothArmsGo s t)) (λ e. (e, tt))
+    by-handler Handler.logicalAnd = tt
+    by-handler Handler.logicalOr = tt
     by-handler Handler.elision = tt
     by-handler Handler.spread = if-clear t
     by-handler Handler.property = in-all (trees (t .kids)) hs

@@ -1,14 +1,15 @@
 -- What an accepted node's children are, by its handler. Acceptance goes by the kind's number, so this is the one place where a proof
--- does too: by cases of a kind from 1 to 19.
+-- does too: by cases of a kind from 1 to 21.
 use mathlib.Core.Bool.{Bool, true, false, cond, _&&_, _||_, and-true}
 use mathlib.Core.Logic.{⊎-elim}
+use mathlib.Core.List.{[], _∷_}
 use mathlib.Core.Path.{_≡_, refl, sym, _∙_, ap, ap₂, subst}
 use Prim.Native.Nat.{ℕ, zero, suc, _+_, _≤_, _<_}
 use native.Mathlib.Nat.{eq-or-lt-of-le}
 use native.Mathlib.Omega.{arith}
 use lib.Dec.{eqb, leb}
 use lib.ListN.{take, drop}
-use borrow.Author.Tests.{leb-true, leb-false, not-true}
+use borrow.Author.Tests.{leb-true, eqb-true, eqb-false, not-true}
 use Rattle.tree.specs.Tree.{Head, Forest, nil, node, Tree, trees, count}
 use Rattle.tree.specs.Heads.{asKind}
 use Rattle.tree.specs.Kind as kind
@@ -16,8 +17,8 @@ use Rattle.tree.specs.Below.{and-both, and-left, and-right}
 use Rattle.tree.specs.Record.{recordOk, factsOk, subOk, included}
 use Rattle.tree.specs.Children.{heritage, elementChildren, childCountOk, mayStand, childrenStand, nodeOk}
 use Rattle.rules.specs.Lists.{every}
-use Rattle.rules.specs.Handler.{Handler, unaryHandler, binaryHandler, handler}
-use Rattle.rules.specs.Proofs.Lists.{by-cond}
+use Rattle.rules.specs.Handler.{Handler, unaryHandler, binaryHandler, logicalHandler, handler}
+use Rattle.rules.specs.Proofs.Lists.{by-cond, or-false-l}
 
 abbrev pub isExpr : Tree → Bool
 isExpr t = kind.isExpression (t .head .kind)
@@ -61,11 +62,32 @@ kidsBy Handler.otherBinary h f = exactly 2 f
 kidsBy Handler.call h f = afterFirst isArgument f
 kidsBy Handler.new h f = afterFirst isArgument f
 kidsBy Handler.class h f = afterHeritage h f
+kidsBy Handler.conditional h f = exactly 3 f
+kidsBy Handler.logicalAnd h f = exactly 2 f
+kidsBy Handler.logicalOr h f = exactly 2 f
 kidsBy Handler.elision h f = exactly 0 f
 kidsBy Handler.spread h f = exactly 1 f
 kidsBy Handler.property h f = exactly (1 + h .sub) f
 kidsBy Handler.element h f = exactly (elementChildren (h .sub)) f
 kidsBy Handler.leftOut h f = true
+
+-- The children of a conditional.
+pub record Three (f : Forest) : Type 0 where
+  pub test : Tree
+  pub consequent : Tree
+  pub alternate : Tree
+  pub are : trees f ≡ test ∷ consequent ∷ alternate ∷ []
+
+pub three : (f : Forest) → exactly 3 f ≡ true → Three f
+three f ok = go f (eqb-true (count f) 3 (and-left (eqb (count f) 3) (every isExpr (trees f)) ok))
+  where
+    go : (f : Forest) → count f ≡ 3 → Three f
+    go nil e = absurd (omega (arith, e))
+    go (node h cs nil) e = absurd (omega (arith, e))
+    go (node h cs (node i ds nil)) e = absurd (omega (arith, e))
+    go (node h cs (node i ds (node j es nil))) e =
+        record { test = record { head = h; kids = cs }; consequent = record { head = i; kids = ds }; alternate = record { head = j; kids = es }; are = refl }
+    go (node h cs (node i ds (node j es (node k fs rest)))) e = absurd (omega (arith, e))
 
 -- Which handlers take an expression.
 abbrev pub exprBy : Handler → Bool
@@ -84,6 +106,9 @@ exprBy Handler.otherBinary = true
 exprBy Handler.call = true
 exprBy Handler.new = true
 exprBy Handler.class = true
+exprBy Handler.conditional = true
+exprBy Handler.logicalAnd = true
+exprBy Handler.logicalOr = true
 exprBy Handler.elision = false
 exprBy Handler.spread = false
 exprBy Handler.property = false
@@ -106,22 +131,22 @@ ofKind h k = asKind h k (h .sub)
 
 record Kinds (k : ℕ) : Type 0 where
   low : 1 ≤ k
-  high : k < 20
+  high : k < 22
 
--- "kind" of refusal 5, and refusal 6: 1 to 22, and not 20 to 22.
+-- "kind" of refusal 5, and refusal 6: 1 to 22, and not 22.
 kinds : (h : Head) → recordOk h ≡ true → included h ≡ true → Kinds (h .kind)
 unfolding recordOk included
 kinds h r i =
     let k = h .kind in
     let a = and-left (leb kind.literal k && leb k kind.assignment) (factsOk h && (subOk h && eqb (h .reserved) 0)) r in
     let low = leb-true kind.literal k (and-left (leb kind.literal k) (leb k kind.assignment) a) in
-    let e = and-right (leb kind.literal k) (leb k kind.assignment) a in
-    let n : (leb kind.logical k && leb k kind.assignment) ≡ false = not-true (kind.isExcluded k) i in
-    record { low = low; high = leb-false kind.logical k (sym (and-true (leb kind.logical k)) ∙ (rw e at n)) }
+    let high = leb-true k kind.assignment (and-right (leb kind.literal k) (leb k kind.assignment) a) in
+    let n = eqb-false k kind.assignment (or-false-l (eqb k kind.assignment) (eqb k kind.logical && eqb (h .sub) 0) (not-true _ i)) in
+    record { low = low; high = omega (arith, high, n) }
 
 -- What holds of a head at each kind holds of every accepted head.
-by-kind : (P : Head → Type 0) (h : Head) → recordOk h ≡ true → included h ≡ true → Each (λ k. P (ofKind h k)) 1 19 → P h
-by-kind P h r i ps = let k = kinds h r i in each-at (λ k. P (ofKind h k)) 1 19 ps (h .kind) (k .low) (k .high)
+by-kind : (P : Head → Type 0) (h : Head) → recordOk h ≡ true → included h ≡ true → Each (λ k. P (ofKind h k)) 1 21 → P h
+by-kind P h r i ps = let k = kinds h r i in each-at (λ k. P (ofKind h k)) 1 21 ps (h .kind) (k .low) (k .high)
 
 infixr 10 _and_
 _and_ : {A B : Type 0} → A → B → A × B
@@ -137,6 +162,9 @@ by-binary P c a o sub =
     by-cond P (eqb sub 1) Handler.comparison (cond (eqb sub 2) Handler.addition Handler.otherBinary) (λ _. c)
     (λ _. by-cond P (eqb sub 2) Handler.addition Handler.otherBinary (λ _. a) (λ _. o))
 
+by-logical : (P : Handler → Type 0) → P Handler.logicalAnd → P Handler.logicalOr → (sub : ℕ) → P (logicalHandler sub)
+by-logical P a o sub = by-cond P (eqb sub 1) Handler.logicalAnd Handler.logicalOr (λ _. a) (λ _. o)
+
 pub expr-by : (h : Head) → recordOk h ≡ true → included h ≡ true → exprBy (handler h) ≡ kind.isExpression (h .kind)
 unfolding handler
 expr-by h r i =
@@ -144,7 +172,9 @@ expr-by h r i =
     (refl and refl and refl and refl and refl and refl and refl and refl and refl and refl and refl and refl and refl
     and by-unary (λ k. exprBy k ≡ true) refl refl refl (h .sub)
     and by-binary (λ k. exprBy k ≡ true) refl refl refl (h .sub)
-    and refl and refl and refl and refl and tt)
+    and refl and refl and refl and refl
+    and by-logical (λ k. exprBy k ≡ true) refl refl (h .sub)
+    and refl and tt)
 
 -- Every child by one rule, or the first by a rule of its own.
 stand-all : (h : Head) (p : ℕ → Bool) → ((k : ℕ) → mayStand h true k ≡ p k) → ((k : ℕ) → mayStand h false k ≡ p k)
@@ -202,6 +232,8 @@ module _ (h : Head) (f : Forest) where
       and of-call kind.new (λ _. refl) (λ _. refl)
       and of-class (heritage h) refl (omega arith)
       and uniform kind.element (eqb (count f) (elementChildren (h .sub))) kind.isExpression (λ _. refl) (λ _. refl)
+      and by-logical (λ k. (eqb (count f) 2 && childrenStand (ofKind h kind.logical) true f) ≡ kidsBy k (ofKind h kind.logical) f) logical logical (h .sub)
+      and uniform kind.conditional (eqb (count f) 3) kind.isExpression (λ _. refl) (λ _. refl)
       and tt)
     where
       none : (k : ℕ) → ((c : ℕ) → mayStand (ofKind h k) true c ≡ kind.isExpression c) → ((c : ℕ) → mayStand (ofKind h k) false c ≡ kind.isExpression c)
@@ -210,6 +242,9 @@ module _ (h : Head) (f : Forest) where
 
       unary : (eqb (count f) 1 && childrenStand (ofKind h kind.unary) true f) ≡ exactly 1 f
       unary = uniform kind.unary (eqb (count f) 1) kind.isExpression (λ _. refl) (λ _. refl)
+
+      logical : (eqb (count f) 2 && childrenStand (ofKind h kind.logical) true f) ≡ exactly 2 f
+      logical = uniform kind.logical (eqb (count f) 2) kind.isExpression (λ _. refl) (λ _. refl)
 
       binary : (eqb (count f) 2 && childrenStand (ofKind h kind.binary) true f) ≡ exactly 2 f
       binary = uniform kind.binary (eqb (count f) 2) kind.isExpression (λ _. refl) (λ _. refl)

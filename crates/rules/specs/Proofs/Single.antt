@@ -8,7 +8,7 @@ use lib.Dec.{eqb}
 use lib.ListN.{length, drop}
 use borrow.Author.Tests.{eqb-true}
 use Rattle.tree.specs.Tree.{Place, Forest, nil, node, Tree, trees, count, All, ind}
-use Rattle.tree.specs.Below.{and-left}
+use Rattle.tree.specs.Below.{and-left, and-right}
 use Rattle.rules.specs.Lists.{any, every, keepIf}
 use Rattle.rules.specs.Settings.{Settings, derived}
 use Rattle.rules.specs.Handler.{Handler, handler, isLiteral, isSpread}
@@ -16,7 +16,8 @@ use Rattle.rules.specs.Facts.{flagged, ofIdentifier, pureNew, pureCall, 
 use Rattle.rules.specs.Made.{placeOf}
 use Rattle.rules.specs.Addition.{foldStringAdditionChain}
 use Rattle.rules.specs.Class.{keptClass, extracted}
-use Rattle.rules.specs.Reduce.{Reduced, kept, noneOneSeveral, staysWith, transformTemplate, transformObject, joinKept, sequenceIfAny, foldArgumentsIntoNeededExpressions, withoutCallee, removeUnusedExpression, reduce}
+use Rattle.rules.specs.Conditional.{testOf, consequentOf, alternateOf}
+use Rattle.rules.specs.Reduce.{Reduced, kept, noneOneSeveral, staysWith, transformTemplate, transformObject, joinKept, sequenceIfAny, foldArgumentsIntoNeededExpressions, withoutCallee, joinArms, removeUnusedExpression, reduce}
 use Rattle.rules.specs.Proofs.Lists.{by-cond}
 use Rattle.rules.specs.Proofs.Unfold.{reduced, reduce-is}
 use Rattle.rules.specs.Proofs.Everywhere.{EverywhereIn, Everywhere}
@@ -49,6 +50,12 @@ join-single p (x ∷ []) = suc-le-suc zero-le
 join-single p (x ∷ y ∷ []) = suc-le-suc zero-le
 join-single p (x ∷ y ∷ z ∷ zs) = suc-le-suc zero-le
 
+arms-single : (t : Tree) (q cs bs : List Tree) → Single q → Single (joinArms t q cs bs)
+arms-single t q [] [] h = h
+arms-single t q [] (a ∷ bs) h = suc-le-suc zero-le
+arms-single t q (c ∷ cs) [] h = suc-le-suc zero-le
+arms-single t q (c ∷ cs) (a ∷ bs) h = suc-le-suc zero-le
+
 module _ (s : Settings) where
   abbrev OneAtMost : Tree → Type 0
   OneAtMost t = Expr t → Single (reduce s t)
@@ -61,6 +68,12 @@ module _ (s : Settings) where
   one-kept (node h cs (node h′ cs′ rest)) w ok hs =
       let two = and-left (eqb (suc (suc (count rest))) 1) (every isExpr (trees (node h cs (node h′ cs′ rest)))) ok in
       absurd (omega (arith, eqb-true (suc (suc (count rest))) 1 two))
+
+  first-kept : (f : Forest) → EverywhereIn NodeGood f → every isExpr (trees f) ≡ true → All OneAtMost (trees f) → Single (kept (testOf (map (reduced s) (trees f))))
+  first-kept nil w ok hs = zero-le
+  first-kept (node h cs rest) w ok hs =
+      let t : Tree = record { head = h; kids = cs } in
+      rw (append-nil (reduce s t)) (hs .0 ((w .0, w .1), and-left (isExpr t) (every isExpr (trees rest)) ok))
 
   module _ (t : Tree) (g : Everywhere NodeGood t) (hs : All OneAtMost (trees (t .kids))) where
     abbrev reductions : List Reduced
@@ -94,6 +107,12 @@ module _ (s : Settings) where
         by-cond Single (pureNew s t) (withoutCallee t reductions) (t ∷ []) (λ _. several-single (placeOf t) (foldArgumentsIntoNeededExpressions (drop 1 reductions))) (λ _. suc-le-suc zero-le)
     by-handler Handler.class p ok =
         by-cond Single (keptClass t) (t ∷ []) (sequenceIfAny (placeOf t) (extracted t)) (λ _. suc-le-suc zero-le) (λ _. sequence-single (placeOf t) (extracted t))
+    by-handler Handler.conditional p ok =
+        by-cond Single (flagged t) (joinArms t (kept (testOf reductions)) (kept (consequentOf reductions)) (kept (alternateOf reductions))) []
+        (λ _. arms-single t (kept (testOf reductions)) (kept (consequentOf reductions)) (kept (alternateOf reductions))
+        (first-kept (t .kids) (g .1) (and-right (eqb (count (t .kids)) 3) (every isExpr (trees (t .kids))) ok) hs)) (λ _. zero-le)
+    by-handler Handler.logicalAnd p ok = suc-le-suc zero-le
+    by-handler Handler.logicalOr p ok = suc-le-suc zero-le
     by-handler Handler.elision p ok = zero-le
     by-handler Handler.spread p ok = keep-single (flagged t) t
     by-handler Handler.property p ok = absurd (true≢false (sym p))

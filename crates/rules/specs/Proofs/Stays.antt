@@ -1,10 +1,11 @@
 -- What is kept of an accepted tree is accepted, handler by handler.
 use mathlib.Core.Bool.{Bool, true, false, cond, not, _&&_, _||_, true≢false}
-use mathlib.Core.List.{List, [], _∷_, _++_, map}
+use mathlib.Core.List.{List, [], _∷_, _++_, map, append-nil}
 use mathlib.Core.Path.{_≡_, refl, sym, _∙_, subst}
-use Prim.Native.Nat.{ℕ, _+_}
+use Prim.Native.Nat.{ℕ, _+_, _≤_}
+use native.Mathlib.Omega.{arith}
 use lib.Dec.{eqb, leb, ltb}
-use lib.ListN.{take, drop}
+use lib.ListN.{length, take, drop}
 use Rattle.tree.specs.Tree.{Place, Head, Tree, trees, forest, trees-forest, count, All, ind}
 use Rattle.tree.specs.Kind as kind
 use Rattle.tree.specs.Below.{allBelow, and-left, and-right}
@@ -14,16 +15,18 @@ use Rattle.rules.specs.Lists.{any, every, keepIf, filter, concatMap}
 use Rattle.rules.specs.Settings.{Settings, derived}
 use Rattle.rules.specs.Handler.{Handler, handler, isKind, isLiteral, isSpread, isSequence}
 use Rattle.rules.specs.Facts.{flagged, stringFact, isString, possibleSymbol, pureNew, pureCall, hasSideEffectsOrPreservedIife, ofIdentifier, unchangedTemplate, onlySpreads, flaggedChild}
-use Rattle.rules.specs.Made.{placeOf, madeHead, flagOf, makeSequence, makeTemplate, makeObject, makeArray, emptyLiteral, withChildren, joined, joinSequence}
+use Rattle.rules.specs.Made.{placeOf, madeHead, flagOf, makeSequence, makeTemplate, makeObject, makeArray, andSub, orSub, makeLogical, emptyLiteral, withChildren, joined, joinSequence}
 use Rattle.rules.specs.Addition.{emptiedUnlessFlagged, isDroppedRight, foldSides, foldStringAdditionChain}
 use Rattle.rules.specs.Class as class
-use Rattle.rules.specs.Reduce.{Reduced, kept, noneOneSeveral, staysWith, flush, flushTemplateBefore, transformTemplate, transformObject, joinKept, sequenceIfAny, foldArgument, foldArgumentsIntoNeededExpressions, withoutCallee, removeUnusedArrayExpr, removeUnusedExpression, reduce}
+use Rattle.rules.specs.Conditional.{testOf, consequentOf, alternateOf}
+use Rattle.rules.specs.Reduce.{Reduced, kept, noneOneSeveral, staysWith, flush, flushTemplateBefore, transformTemplate, transformObject, joinKept, sequenceIfAny, foldArgument, foldArgumentsIntoNeededExpressions, withoutCallee, removeUnusedArrayExpr, joinArms, removeUnusedExpression, reduce}
 use Rattle.rules.specs.Proofs.Lists.{by-cond, or-true-l, or-true-r, or-rest, all-join, all-take, all-drop, all-keep, concatMap-all, all-map, all-zip, every-all, all-every, none-all, drop-map}
 use Rattle.rules.specs.Proofs.Unfold.{reduced, reduce-is, kept-is}
-use Rattle.rules.specs.Proofs.Everywhere.{Everywhere, kids-everywhere, forest-everywhere}
+use Rattle.rules.specs.Proofs.Everywhere.{Everywhere, kids-everywhere, forest-everywhere, everywhere-map}
 use Rattle.rules.specs.Proofs.Facts.{handled, spread-handled, sequence-handled, addition-handled, array-handled}
 use Rattle.rules.specs.Proofs.Addition.{Sides, NoSides, by-chain, fold-sides}
-use Rattle.rules.specs.Proofs.Shape.{isExpr, isArrayPart, isArgument, isObjectPart, isElement, exactly, afterFirst, afterHeritage, kidsBy, exprBy, expr-by, NodeGood, HeadGood, good-head, good-kids, good-node}
+use Rattle.rules.specs.Proofs.Shape.{isExpr, isArrayPart, isArgument, isObjectPart, isElement, exactly, afterFirst, afterHeritage, kidsBy, three, exprBy, expr-by, NodeGood, HeadGood, good-head, good-kids, good-node}
+use Rattle.rules.specs.Proofs.Single.{at-most-one}
 
 -- The heads that a rule makes are accepted.
 by-flag-of : (ts : List Tree) (P : ℕ → Type 0) → P 1 → P 0 → P (flagOf ts)
@@ -34,14 +37,18 @@ flag-small : (ts : List Tree) → ltb (flagOf ts) 256 ≡ true
 flag-small ts = by-flag-of ts (λ f. ltb f 256 ≡ true) refl refl
 
 record MadeHeads (p : Place) : Type 0 where
-  literal : HeadGood (madeHead kind.literal 18 p)
-  template : HeadGood (madeHead kind.template 1 p)
-  flagged-array : HeadGood (madeHead kind.array 1 p)
-  clear-array : HeadGood (madeHead kind.array 0 p)
-  flagged-object : HeadGood (madeHead kind.object 1 p)
-  clear-object : HeadGood (madeHead kind.object 0 p)
-  flagged-sequence : HeadGood (madeHead kind.sequence 1 p)
-  clear-sequence : HeadGood (madeHead kind.sequence 0 p)
+  literal : HeadGood (madeHead kind.literal 0 18 p)
+  template : HeadGood (madeHead kind.template 0 1 p)
+  flagged-array : HeadGood (madeHead kind.array 0 1 p)
+  clear-array : HeadGood (madeHead kind.array 0 0 p)
+  flagged-object : HeadGood (madeHead kind.object 0 1 p)
+  clear-object : HeadGood (madeHead kind.object 0 0 p)
+  flagged-sequence : HeadGood (madeHead kind.sequence 0 1 p)
+  clear-sequence : HeadGood (madeHead kind.sequence 0 0 p)
+  flagged-and : HeadGood (madeHead kind.logical andSub 1 p)
+  clear-and : HeadGood (madeHead kind.logical andSub 0 p)
+  flagged-or : HeadGood (madeHead kind.logical orSub 1 p)
+  clear-or : HeadGood (madeHead kind.logical orSub 0 p)
 
 made-heads : (p : Place) → MadeHeads p
 unfolding rec.recordOk rec.included rec.factsOk rec.bitsWithin allBelow rec.allowedFacts rec.pairsOk rec.literalOk rec.subOk
@@ -54,6 +61,10 @@ made-heads p = record {
   clear-object = record { recorded = refl; isIncluded = refl };
   flagged-sequence = record { recorded = refl; isIncluded = refl };
   clear-sequence = record { recorded = refl; isIncluded = refl };
+  flagged-and = record { recorded = refl; isIncluded = refl };
+  clear-and = record { recorded = refl; isIncluded = refl };
+  flagged-or = record { recorded = refl; isIncluded = refl };
+  clear-or = record { recorded = refl; isIncluded = refl };
 }
 
 argument-part : (c : Tree) → isArgument c ≡ true → isArrayPart c ≡ true
@@ -76,13 +87,13 @@ abbrev pub Expr : (Head → Type 0) → Tree → Type 0
 Expr H t = Everywhere (Node H) t × (isExpr t ≡ true)
 
 -- H: what else is to hold of each head. A node may be made at the place of a head of which H holds.
-module _ (H : Head → Type 0) (at-place : (h : Head) → H h → (k facts : ℕ) → ltb k 256 ≡ true → ltb facts 256 ≡ true → H (madeHead k facts (h .place))) where
+module _ (H : Head → Type 0) (at-place : (h : Head) → H h → (k sub facts : ℕ) → ltb k 256 ≡ true → ltb sub 256 ≡ true → ltb facts 256 ≡ true → H (madeHead k sub facts (h .place))) where
   abbrev Good : Tree → Type 0
   Good t = Everywhere (Node H) t
 
   -- A place at which a node may be made.
   abbrev PlaceGood : Place → Type 0
-  PlaceGood p = (k facts : ℕ) → ltb k 256 ≡ true → ltb facts 256 ≡ true → H (madeHead k facts p)
+  PlaceGood p = (k sub facts : ℕ) → ltb k 256 ≡ true → ltb sub 256 ≡ true → ltb facts 256 ≡ true → H (madeHead k sub facts p)
 
   place-good : (t : Tree) → Good t → PlaceGood (placeOf t)
   place-good t g = at-place (t .head) (g .0 .1)
@@ -107,19 +118,19 @@ module _ (H : Head → Type 0) (at-place : (h : Head) → H h → (k facts : ℕ
   good-sequence : (p : Place) (ts : List Tree) → PlaceGood p → All (Expr H) ts → Expr H (makeSequence p ts)
   unfolding makeSequence handler
   good-sequence p ts m gs =
-      let o = by-flag-of ts (λ f. HeadGood (madeHead kind.sequence f p)) (made-heads p .flagged-sequence) (made-heads p .clear-sequence) in
-      (over isExpr (madeHead kind.sequence (flagOf ts) p) Handler.sequence ts o (m kind.sequence (flagOf ts) refl (flag-small ts)) refl gs (rw (trees-forest ts) (fit-every isExpr ts gs)), refl)
+      let o = by-flag-of ts (λ f. HeadGood (madeHead kind.sequence 0 f p)) (made-heads p .flagged-sequence) (made-heads p .clear-sequence) in
+      (over isExpr (madeHead kind.sequence 0 (flagOf ts) p) Handler.sequence ts o (m kind.sequence 0 (flagOf ts) refl refl (flag-small ts)) refl gs (rw (trees-forest ts) (fit-every isExpr ts gs)), refl)
 
   good-template : (p : Place) (ts : List Tree) → PlaceGood p → All (Expr H) ts → Expr H (makeTemplate p ts)
   unfolding makeTemplate handler
   good-template p ts m gs =
-      (over isExpr (madeHead kind.template 1 p) Handler.template ts (made-heads p .template) (m kind.template 1 refl refl) refl gs (rw (trees-forest ts) (fit-every isExpr ts gs)), refl)
+      (over isExpr (madeHead kind.template 0 1 p) Handler.template ts (made-heads p .template) (m kind.template 0 1 refl refl refl) refl gs (rw (trees-forest ts) (fit-every isExpr ts gs)), refl)
 
   good-object : (p : Place) (ts : List Tree) → PlaceGood p → All (Fit isSpread) ts → Expr H (makeObject p ts)
   unfolding makeObject handler isKind
   good-object p ts m gs =
-      let o = by-flag-of ts (λ f. HeadGood (madeHead kind.object f p)) (made-heads p .flagged-object) (made-heads p .clear-object) in (
-        over isSpread (madeHead kind.object (flagOf ts) p) Handler.object ts o (m kind.object (flagOf ts) refl (flag-small ts)) refl gs
+      let o = by-flag-of ts (λ f. HeadGood (madeHead kind.object 0 f p)) (made-heads p .flagged-object) (made-heads p .clear-object) in (
+        over isSpread (madeHead kind.object 0 (flagOf ts) p) Handler.object ts o (m kind.object 0 (flagOf ts) refl refl (flag-small ts)) refl gs
             (rw (trees-forest ts) (all-every isObjectPart ts (all-map (λ t f. or-true-l (isSpread t) (eqb (t .head .kind) kind.property) (f .1)) ts gs))),
         refl,
       )
@@ -127,15 +138,29 @@ module _ (H : Head → Type 0) (at-place : (h : Head) → H h → (k facts : ℕ
   good-array : (p : Place) (t : Tree) → PlaceGood p → Fit isSpread t → Expr H (makeArray p (t ∷ []))
   unfolding makeArray handler isKind
   good-array p t m g =
-      let o = by-flag-of (t ∷ []) (λ f. HeadGood (madeHead kind.array f p)) (made-heads p .flagged-array) (made-heads p .clear-array) in (
-        over isSpread (madeHead kind.array (flagOf (t ∷ [])) p) Handler.array (t ∷ []) o (m kind.array (flagOf (t ∷ [])) refl (flag-small (t ∷ []))) refl (g, tt)
+      let o = by-flag-of (t ∷ []) (λ f. HeadGood (madeHead kind.array 0 f p)) (made-heads p .flagged-array) (made-heads p .clear-array) in (
+        over isSpread (madeHead kind.array 0 (flagOf (t ∷ [])) p) Handler.array (t ∷ []) o (m kind.array 0 (flagOf (t ∷ [])) refl refl (flag-small (t ∷ []))) refl (g, tt)
             (rw (or-true-r (isExpr t) (isSpread t || eqb (t .head .kind) kind.elision) (or-true-l (isSpread t) (eqb (t .head .kind) kind.elision) (g .1)))),
         refl,
       )
 
   good-literal : (p : Place) → PlaceGood p → Expr H (emptyLiteral p)
   unfolding emptyLiteral handler
-  good-literal p m = (over isExpr (madeHead kind.literal 18 p) Handler.leaf [] (made-heads p .literal) (m kind.literal 18 refl refl) refl tt refl, refl)
+  good-literal p m = (over isExpr (madeHead kind.literal 0 18 p) Handler.leaf [] (made-heads p .literal) (m kind.literal 0 18 refl refl refl) refl tt refl, refl)
+
+  good-and : (p : Place) (q x : Tree) → PlaceGood p → Expr H q → Expr H x → Expr H (makeLogical andSub p (q ∷ x ∷ []))
+  unfolding makeLogical handler
+  good-and p q x m f g =
+      let ts = q ∷ x ∷ [] in
+      let o = by-flag-of ts (λ f. HeadGood (madeHead kind.logical andSub f p)) (made-heads p .flagged-and) (made-heads p .clear-and) in
+      (over isExpr (madeHead kind.logical andSub (flagOf ts) p) Handler.logicalAnd ts o (m kind.logical andSub (flagOf ts) refl refl (flag-small ts)) refl (f, (g, tt)) (rw (f .1, g .1)), refl)
+
+  good-or : (p : Place) (q x : Tree) → PlaceGood p → Expr H q → Expr H x → Expr H (makeLogical orSub p (q ∷ x ∷ []))
+  unfolding makeLogical handler
+  good-or p q x m f g =
+      let ts = q ∷ x ∷ [] in
+      let o = by-flag-of ts (λ f. HeadGood (madeHead kind.logical orSub f p)) (made-heads p .flagged-or) (made-heads p .clear-or) in
+      (over isExpr (madeHead kind.logical orSub (flagOf ts) p) Handler.logicalOr ts o (m kind.logical orSub (flagOf ts) refl refl (flag-small ts)) refl (f, (g, tt)) (rw (f .1, g .1)), refl)
 
   -- A node that stays over other children.
   good-stays : (p : Tree → Bool) (t : Tree) (k : Handler) (ts : List Tree) → Good t → handler (t .head) ≡ k → All (Fit p) ts
@@ -243,6 +268,18 @@ module _ (H : Head → Type 0) (at-place : (h : Head) → H h → (k facts : ℕ
       (λ _. stays-with isArgument t Handler.array (kept cs) (g .0) (g .1) e fs
       (rw (trees-forest (kept cs)) (all-every isArrayPart (kept cs) (all-map (λ c f. argument-part c (f .1)) (kept cs) fs))))
       (λ n. none-one-several (placeOf t) (kept cs) (place-good t (g .0)) (no-spread (kept cs) n fs))
+
+  -- A conditional's arms, of each of which one tree is left at most.
+  arms-fit : (t q c a : Tree) → trees (t .kids) ≡ q ∷ c ∷ a ∷ [] → handler (t .head) ≡ Handler.conditional → Expr H t → Expr H q
+      → (qs cs bs : List Tree) → All (Expr H) qs → All (Expr H) cs → All (Expr H) bs → length cs ≤ 1 → length bs ≤ 1 → All (Expr H) (joinArms t qs cs bs)
+  arms-fit t q c a are e g f qs [] [] hq hc ha lc la = hq
+  arms-fit t q c a are e g f qs [] (y ∷ []) hq hc ha lc la = rw are (good-or (placeOf t) q y (place-good t (g .0)) f (ha .0), tt)
+  arms-fit t q c a are e g f qs (x ∷ []) [] hq hc ha lc la = rw are (good-and (placeOf t) q x (place-good t (g .0)) f (hc .0), tt)
+  arms-fit t q c a are e g f qs (x ∷ []) (y ∷ []) hq hc ha lc la =
+      rw are ((good-stays isExpr t Handler.conditional (q ∷ x ∷ y ∷ []) (g .0) e (f, (hc .0, (ha .0, tt))) (rw (f .1, hc .0 .1, ha .0 .1)), expr-stays t (q ∷ x ∷ y ∷ []) (g .1)), tt)
+  arms-fit t q c a are e g f qs [] (y ∷ z ∷ zs) hq hc ha lc la = absurd (omega (arith, la))
+  arms-fit t q c a are e g f qs (x ∷ []) (y ∷ z ∷ zs) hq hc ha lc la = absurd (omega (arith, la))
+  arms-fit t q c a are e g f qs (x ∷ z ∷ zs) bs hq hc ha lc la = absurd (omega (arith, lc))
 
   -- What waits.
   flush-template : (p : Place) (w : List Tree) → PlaceGood p → All (Expr H) w → All (Expr H) (flush makeTemplate p w)
@@ -352,6 +389,19 @@ module _ (H : Head → Type 0) (at-place : (h : Head) → H h → (k facts : ℕ
           (and-right (every isExpr (take 1 ts)) (every isArgument (drop 1 ts)) (and-right (leb 1 (count (t .kids))) (every isExpr (take 1 ts) && every isArgument (drop 1 ts)) ok)))
           (all-drop LeavesExprs 1 ts hs)))
 
+      single : (c : Tree) → Expr H c → length (reduce s c) ≤ 1
+      single c f = at-most-one s c (everywhere-map (λ t (n : Node H t). n .0) c (f .0), f .1)
+
+      conditional-fit : isExpr t ≡ true → handler (t .head) ≡ Handler.conditional → exactly 3 (t .kids) ≡ true
+          → All (Expr H) (joinArms t (kept (testOf reductions)) (kept (consequentOf reductions)) (kept (alternateOf reductions)))
+      conditional-fit x e ok =
+          let T = three (t .kids) ok in
+          let fs : All (Expr H) (T .test ∷ T .consequent ∷ T .alternate ∷ []) = rw (T .are) at (exactly-fit 3 t g ok) in
+          let ls : All LeavesExprs (T .test ∷ T .consequent ∷ T .alternate ∷ []) = rw (T .are) at hs in
+          rw (T .are, append-nil (reduce s (T .test)), append-nil (reduce s (T .consequent)), append-nil (reduce s (T .alternate)))
+          (arms-fit t (T .test) (T .consequent) (T .alternate) (T .are) e (g, x) (fs .0) (reduce s (T .test)) (reduce s (T .consequent)) (reduce s (T .alternate))
+          (ls .0 .expr (fs .0 .1)) (ls .1 .0 .expr (fs .1 .0 .1)) (ls .1 .1 .0 .expr (fs .1 .1 .0 .1)) (single (T .consequent) (fs .1 .0)) (single (T .alternate) (fs .1 .1 .0)))
+
       by-handler : isExpr t ≡ true → (k : Handler) → handler (t .head) ≡ k → exprBy k ≡ true → kidsBy k (t .head) (t .kids) ≡ true → All (Expr H) (removeUnusedExpression k s t reductions)
       by-handler x Handler.leaf e p ok = keep x (flagged t)
       by-handler x Handler.this e p ok = keep x (derived s)
@@ -381,6 +431,11 @@ module _ (H : Head → Type 0) (at-place : (h : Head) → H h → (k facts : ℕ
       by-handler x Handler.class e p ok =
           by-cond (All (Expr H)) (class.keptClass t) (t ∷ []) (sequenceIfAny (placeOf t) (class.extracted t)) (λ _. ((g, x), tt))
           (λ _. sequence-if-any (placeOf t) (class.extracted t) (place-good t g) (extracted-fit t g ok))
+      by-handler x Handler.conditional e p ok =
+          by-cond (All (Expr H)) (flagged t) (joinArms t (kept (testOf reductions)) (kept (consequentOf reductions)) (kept (alternateOf reductions))) []
+          (λ _. conditional-fit x e ok) (λ _. tt)
+      by-handler x Handler.logicalAnd e p ok = ((g, x), tt)
+      by-handler x Handler.logicalOr e p ok = ((g, x), tt)
       by-handler x Handler.elision e p ok = tt
       by-handler x Handler.spread e p ok = absurd (true≢false (sym p))
       by-handler x Handler.property e p ok = absurd (true≢false (sym p))

@@ -9,7 +9,8 @@ use Rattle.rules.specs.Settings.{Settings}
 use Rattle.rules.specs.Handler.{Handler, handler, isSpread}
 use Rattle.rules.specs.Facts.{flagged, clear, possibleSymbol, ofIdentifier, pureNew, pureCall, hasSideEffectsOrPreservedIife, unchangedTemplate, onlySpreads, flaggedChild}
 use Rattle.rules.specs.Class.{keptClass}
-use Rattle.rules.specs.Reduce.{Reduced, kept, removeUnusedExpression, reduceRule, reduce}
+use Rattle.rules.specs.Conditional.{armsOf}
+use Rattle.rules.specs.Reduce.{Reduced, kept, removeUnusedExpression, reduceRule, reduce, bothArmsGo}
 use Rattle.rules.specs.Effects.{Evaluated, childrenInOrder, effectsBy, evaluateRule, evaluate, effects, effectsOf}
 use Rattle.rules.specs.Reads.{ReadIn, readInAll, foldReads, classReads, readAt, reducedChildren, readsRule, reads}
 use Rattle.rules.specs.ReadsBy.{readInAllBut, readsBy}
@@ -61,6 +62,13 @@ reads-by-handler Handler.new s t cs = of-new (pureNew s t)
     of-new true = refl
     of-new false = refl
 reads-by-handler Handler.class s t cs = append-nil (cond (keptClass t) [] (classReads t))
+reads-by-handler Handler.conditional s t cs = of-flagged (flagged t)
+  where
+    of-flagged : (b : Bool) → keepIf (not b) t ++ readInAll (cond b (cond (bothArmsGo s t) cs (armsOf cs)) []) ≡ cond b (readInAll (cond (bothArmsGo s t) cs (armsOf cs))) (t ∷ [])
+    of-flagged true = refl
+    of-flagged false = refl
+reads-by-handler Handler.logicalAnd s t cs = refl
+reads-by-handler Handler.logicalOr s t cs = refl
 reads-by-handler Handler.elision s t cs = refl
 reads-by-handler Handler.spread s t cs = append-nil (keepIf (clear t) t)
 reads-by-handler Handler.property s t cs = refl

@@ -5,7 +5,7 @@ use borrow.Author.Tests.{eq-eqb, ne-eqb}
 use Rattle.tree.specs.Tree.{Head}
 use Rattle.rules.specs.Settings.{derived}
 use Rattle.rules.specs.Facts.{flagged}
-use Rattle.readings.specs.Node.{settingsWith}
+use Rattle.readings.specs.Node.{settingsGiven}
 use Rattle.effects.specs.Plan.{derived-is}
 use Rattle.effects.specs.Passed.{isPassed, passed-small, own-is, passes-is}
 use borrow.Author.Needs.{needs}
@@ -27,14 +27,17 @@ shr-result c = omega (arith, passed-small (c .before .kind-at .result) (ap isPas
 
 returns : tie.Need-returns
 returns c = record {
-  by = λ t n w.
-      let k = c .before .kind-at .ensures .0 in
-      let p = ap isPassed k ∙ c .before .before .before .before .before .before .pre .1 in
-      rw (own-is (flagged t) (derived (settingsWith (c .before .before .before .before .before .before .args .settings))) (c .before .before .before .if1 .flagged) (c .before .before .if2 .kinds)
-      (⊎-elim (λ x. inl (sym (tells-flagged (c .before .before .before .before .flagged-at .ensures) .by t n) ∙ x .0 .taken, x .1)) (λ x. inr (sym (tells-flagged (c .before .before .before .before .flagged-at .ensures) .by t n) ∙ x .0 .left, x .1)) (c .before .before .before .if1 .came))
-      (⊎-elim (λ x. inl (sym (derived-is (c .before .before .before .before .before .before .args .settings)) ∙ eq-eqb _ _ (x .0 .taken), x .2)) (λ x. inr (sym (derived-is (c .before .before .before .before .before .before .args .settings)) ∙ ne-eqb _ _ (x .0 .left), x .1)) (c .before .before .if2 .came))
-      (c .before .kind-at .result) (passed-small (c .before .kind-at .result) p))
-      (passes-is (settingsWith (c .before .before .before .before .before .before .args .settings)) t w _ (k ∙ ap (λ (h : Head). h .kind) (n .stands .0)) p);
+  by = λ places. record {
+    by = λ t n w.
+        let k = c .before .kind-at .ensures .0 in
+        let p = ap isPassed k ∙ c .before .before .before .before .before .before .pre .1 in
+        let st = settingsGiven places (c .before .before .before .before .before .before .args .settings) in
+        rw (own-is (flagged t) (derived st) (c .before .before .before .if1 .flagged) (c .before .before .if2 .kinds)
+        (⊎-elim (λ x. inl (sym (tells-flagged (c .before .before .before .before .flagged-at .ensures) .by t n) ∙ x .0 .taken, x .1)) (λ x. inr (sym (tells-flagged (c .before .before .before .before .flagged-at .ensures) .by t n) ∙ x .0 .left, x .1)) (c .before .before .before .if1 .came))
+        (⊎-elim (λ x. inl (sym (derived-is places _) ∙ eq-eqb _ _ (x .0 .taken), x .2)) (λ x. inr (sym (derived-is places _) ∙ ne-eqb _ _ (x .0 .left), x .1)) (c .before .before .if2 .came))
+        (c .before .kind-at .result) (passed-small (c .before .kind-at .result) p))
+        (passes-is st t w _ (k ∙ ap (λ (h : Head). h .kind) (n .stands .0)) p);
+  };
 }
 
 pub passed-itself-spec : {M : Type 1} → statement M

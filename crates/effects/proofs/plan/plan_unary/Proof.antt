@@ -10,25 +10,25 @@ sub-at-requires : tie.Need-sub-at-requires
 sub-at-requires c κs = search needs
 
 returns : tie.Need-returns
-returns c = record { by = λ t n w e. plan-void _ t _ (sym e) refl _ (c .before .sub-at .ensures .0 ∙ ap (λ (h : Head). h .sub) (n .stands .0)) (c .if1 .taken) }
+returns c = record { by = λ st t n w e. plan-void st t _ (sym e) refl _ (c .before .sub-at .ensures .0 ∙ ap (λ (h : Head). h .sub) (n .stands .0)) (c .if1 .taken) }
 
 returns-2 : tie.Need-returns-2
-returns-2 c = record { by = λ t n w e. plan-not _ t _ (sym e) refl _ (c .before .before .sub-at .ensures .0 ∙ ap (λ (h : Head). h .sub) (n .stands .0)) (c .if2 .taken) }
+returns-2 c = record { by = λ st t n w e. plan-not st t _ (sym e) refl _ (c .before .before .sub-at .ensures .0 ∙ ap (λ (h : Head). h .sub) (n .stands .0)) (c .if2 .taken) }
 
 of-identifier-requires : tie.Need-of-identifier-requires
 of-identifier-requires c κs = search needs
 
 returns-3 : tie.Need-returns-3
-returns-3 c = record { by = λ t n w e. plan-typeof-identifier _ t _ (sym e) refl _ (c .before .before .before .before .before .sub-at .ensures .0 ∙ ap (λ (h : Head). h .sub) (n .stands .0)) (c .before .before .if3 .taken) (sym (c .before .of-identifier .ensures .by t n) ∙ c .if4 .taken) }
+returns-3 c = record { by = λ st t n w e. plan-typeof-identifier st t _ (sym e) refl _ (c .before .before .before .before .before .sub-at .ensures .0 ∙ ap (λ (h : Head). h .sub) (n .stands .0)) (c .before .before .if3 .taken) (sym (c .before .of-identifier .ensures .by t n) ∙ c .if4 .taken) }
 
 returns-4 : tie.Need-returns-4
-returns-4 c = record { by = λ t n w e. plan-typeof _ t _ (sym e) refl _ (c .before .before .before .before .before .sub-at .ensures .0 ∙ ap (λ (h : Head). h .sub) (n .stands .0)) (c .before .before .if3 .taken) (sym (c .before .of-identifier .ensures .by t n) ∙ c .if4 .left) }
+returns-4 c = record { by = λ st t n w e. plan-typeof st t _ (sym e) refl _ (c .before .before .before .before .before .sub-at .ensures .0 ∙ ap (λ (h : Head). h .sub) (n .stands .0)) (c .before .before .if3 .taken) (sym (c .before .of-identifier .ensures .by t n) ∙ c .if4 .left) }
 
 flagged-at-requires : tie.Need-flagged-at-requires
 flagged-at-requires c κs = search needs
 
 returns-5 : tie.Need-returns-5
-returns-5 c = record { by = λ t n w e. plan-other-unary _ t _ (sym e) refl _ (c .before .before .before .before .sub-at .ensures .0 ∙ ap (λ (h : Head). h .sub) (n .stands .0)) (c .before .before .before .if1 .left) (c .before .before .if2 .left) (c .before .if3 .left) (tells-flagged (c .flagged-at .ensures) .by t n) }
+returns-5 c = record { by = λ st t n w e. plan-other-unary st t _ (sym e) refl _ (c .before .before .before .before .sub-at .ensures .0 ∙ ap (λ (h : Head). h .sub) (n .stands .0)) (c .before .before .before .if1 .left) (c .before .before .if2 .left) (c .before .if3 .left) (tells-flagged (c .flagged-at .ensures) .by t n) }
 
 pub plan-unary-spec : {M : Type 1} → statement M
 plan-unary-spec =

@@ -14,7 +14,7 @@ least-children-requires : tie.Need-least-children-requires
 least-children-requires c κs = search needs
 
 returns-2 : tie.Need-returns-2
-returns-2 c = sym (count-any _ _ (c .before .before .before .most-children .ensures) (c .least-children .ensures) (c .before .if2 .left))
+returns-2 c = sym (count-any _ _ (c .before .before .before .most-children .ensures) (c .least-children .ensures) (c .before .before .if1 .taken) (c .before .if2 .left))
 
 least-children-requires-2 : tie.Need-least-children-requires-2
 least-children-requires-2 c κs = search needs

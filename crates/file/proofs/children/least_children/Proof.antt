@@ -6,7 +6,7 @@ use Rattle.file.proofs.children.least_children.Statement.{statement}
 use Rattle.file.proofs.children.least_children.Tie as tie
 
 returns : tie.Need-returns
-returns c = sym (least-children-beyond (c .before .args .kind) (omega (arith, c .if1 .taken)))
+returns c = sym (least-children-beyond (c .before .args .kind) (omega (arith, c .if1 .taken)) (c .if1 .taken))
 
 mul-result : tie.Need-mul-result
 mul-result c = search needs

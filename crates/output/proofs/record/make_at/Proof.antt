@@ -23,7 +23,7 @@ same-length : tie.Need-same-length
 same-length c = search needs
 
 returns : tie.Need-returns
-returns c = made-at _ _ _ (omega arith) _ (c .before .before .before .before .start-of .ensures .0) (search needs) _ _ _ _ _ (c .before .before .make .ensures)
+returns c = made-at _ _ _ (omega arith) _ (c .before .before .before .before .start-of .ensures .0) (search needs) _ _ _ _ _ _ (c .before .before .make .ensures)
 
 pub make-at-spec : {M : Type 1} → statement M
 make-at-spec =

@@ -1,7 +1,8 @@
 use Rattle.handlers.specs.declared.outcome.Rewrite.the-variants.{Sequence, Array, Comparison}
 use Rattle.handlers.specs.declared.outcome.Rewrite.the-variants as rewrites
 use Rattle.reducer.specs.Expression.{as-outcome, as-made, given-copy, inner-given, outer-given, whole-given, removable-done, unchanged-done, unwrapped-done, in-order-list, sequence-done, array-done, comparison-done, walked-given, template-done, object-done, callee-first, callee-within, arguments-given, arguments-list, arguments-done, addition-done, class-given, class-done}
-use Rattle.handlers.specs.declared.outcome.Outcome.the-variants.{Removable, Unchanged, Unwrapped, Rewritten, Arguments, Addition, Class}
+use Rattle.handlers.specs.declared.outcome.Outcome.the-variants.{Removable, Unchanged, Unwrapped, Rewritten, Arguments, Addition, Class, Conditional}
+use Rattle.reducer.specs.Conditional.{arms-within, consequent-given, alternate-given, test-given, test-room, both-gone, arms-given, conditional-done}
 use Rattle.reducer.specs.Children.{Walking, walk-start, walk-done, walk-subtree, child-some, child-within, child-given, walk-on}
 use mathlib.Core.Path.{refl}
 use native.Mathlib.Omega.{arith}
@@ -16,20 +17,24 @@ use borrow.Fn.Kinds.{In}
 use borrow.Fn.PlainCycle.{Measures, is, falls, and}
 use Rattle.reducer.proofs.expression.reduce_child.Reads as reduce-child
 use Rattle.reducer.proofs.expression.reduce_child.Kinds as reduce-child-kinds
-use Rattle.reducer.proofs.expression.+reduce_child+reduce_children+reduce_rewritten+remove_unused_expression.Lts-reduce_child as reduce-child-lts
+use Rattle.reducer.proofs.expression.+reduce_child+reduce_children+reduce_conditional+reduce_rewritten+remove_unused_expression.Lts-reduce_child as reduce-child-lts
 use Rattle.reducer.proofs.expression.reduce_children.Reads as reduce-children
 use Rattle.reducer.proofs.expression.reduce_children.Kinds as reduce-children-kinds
-use Rattle.reducer.proofs.expression.+reduce_child+reduce_children+reduce_rewritten+remove_unused_expression.Lts-reduce_children as reduce-children-lts
+use Rattle.reducer.proofs.expression.+reduce_child+reduce_children+reduce_conditional+reduce_rewritten+remove_unused_expression.Lts-reduce_children as reduce-children-lts
+use Rattle.reducer.proofs.expression.reduce_conditional.Reads as reduce-conditional
+use Rattle.reducer.proofs.expression.reduce_conditional.Kinds as reduce-conditional-kinds
+use Rattle.reducer.proofs.expression.+reduce_child+reduce_children+reduce_conditional+reduce_rewritten+remove_unused_expression.Lts-reduce_conditional as reduce-conditional-lts
 use Rattle.reducer.proofs.expression.reduce_rewritten.Reads as reduce-rewritten
 use Rattle.reducer.proofs.expression.reduce_rewritten.Kinds as reduce-rewritten-kinds
-use Rattle.reducer.proofs.expression.+reduce_child+reduce_children+reduce_rewritten+remove_unused_expression.Lts-reduce_rewritten as reduce-rewritten-lts
+use Rattle.reducer.proofs.expression.+reduce_child+reduce_children+reduce_conditional+reduce_rewritten+remove_unused_expression.Lts-reduce_rewritten as reduce-rewritten-lts
 use Rattle.reducer.proofs.expression.remove_unused_expression.Reads as remove-unused-expression
 use Rattle.reducer.proofs.expression.remove_unused_expression.Kinds as remove-unused-expression-kinds
-use Rattle.reducer.proofs.expression.+reduce_child+reduce_children+reduce_rewritten+remove_unused_expression.Lts-remove_unused_expression as remove-unused-expression-lts
+use Rattle.reducer.proofs.expression.+reduce_child+reduce_children+reduce_conditional+reduce_rewritten+remove_unused_expression.Lts-remove_unused_expression as remove-unused-expression-lts
 use Rattle.addition.proofs.remove_unused_addition.Reads as remove-unused-addition-reads
 use Rattle.classes.proofs.remove_unused_class.Reads as remove-unused-class-reads
 use Rattle.fields.proofs.subtree_at.Reads as subtree-at-reads
 use Rattle.handlers.proofs.handle.Reads as handle-reads
+use Rattle.output.proofs.copy_records.Reads as copy-records-reads
 use Rattle.output.proofs.copy_tree.Reads as copy-tree-reads
 use Rattle.readings.proofs.first_size.Reads as first-size-reads
 use Rattle.reducer.proofs.close.close_object.Reads as close-object-reads
@@ -40,13 +45,14 @@ use Rattle.reducer.proofs.walk.wraps_at.Reads as wraps-at-reads
 use Rattle.rewrite.proofs.none_one_several.Reads as none-one-several-reads
 use Rattle.rewrite.proofs.remove_unused_array_expr.Reads as remove-unused-array-expr-reads
 use Rattle.rewrite.proofs.remove_unused_sequence_expr.Reads as remove-unused-sequence-expr-reads
+use Rattle.rewrite.proofs.join_arms.Reads as join-arms-reads
 use Rattle.rewrite.proofs.join_kept.Reads as join-kept-reads
 use Rattle.rewrite.proofs.hold.Reads as hold-reads
 use Rattle.rewrite.proofs.wrap_spread.Reads as wrap-spread-reads
-use Rattle.reducer.proofs.expression.+reduce_child+reduce_children+reduce_rewritten+remove_unused_expression.{
+use Rattle.reducer.proofs.expression.+reduce_child+reduce_children+reduce_conditional+reduce_rewritten+remove_unused_expression.{
   statement,
 }
-use Rattle.reducer.proofs.expression.+reduce_child+reduce_children+reduce_rewritten+remove_unused_expression.Tie.{
+use Rattle.reducer.proofs.expression.+reduce_child+reduce_children+reduce_conditional+reduce_rewritten+remove_unused_expression.Tie.{
   close,
 }
 
@@ -55,6 +61,9 @@ abbrev μ-reduce-child : Measures 2 reduce-child-kinds.ps ℕ
 
 abbrev μ-reduce-children : Measures 2 reduce-children-kinds.ps ℕ
 μ-reduce-children κs a = a .1 .1 .1 .1 .0 * 1048576 + a .1 .1 .0 * 8 + 4
+
+abbrev μ-reduce-conditional : Measures 2 reduce-conditional-kinds.ps ℕ
+μ-reduce-conditional κs a = a .1 .1 .1 .0 * 1048576 + a .1 .1 .0 * 8 + 1
 
 abbrev μ-reduce-rewritten : Measures 2 reduce-rewritten-kinds.ps ℕ
 μ-reduce-rewritten κs a = a .1 .1 .1 .1 .0 * 1048576 + a .1 .1 .0 * 8 + 1
@@ -89,6 +98,22 @@ reduce-children-below t =
     reduce-children-kinds.ps
     (falls 2 reduce-children-kinds.ps _<_ μ-reduce-children t)
     reduce-children.Pre
+
+abbrev reduce-conditional-at : ℕ → In 2 reduce-conditional-kinds.ps
+reduce-conditional-at t =
+    and
+    2
+    reduce-conditional-kinds.ps
+    (is 2 reduce-conditional-kinds.ps μ-reduce-conditional t)
+    reduce-conditional.Pre
+
+abbrev reduce-conditional-below : ℕ → In 2 reduce-conditional-kinds.ps
+reduce-conditional-below t =
+    and
+    2
+    reduce-conditional-kinds.ps
+    (falls 2 reduce-conditional-kinds.ps _<_ μ-reduce-conditional t)
+    reduce-conditional.Pre
 
 abbrev reduce-rewritten-at : ℕ → In 2 reduce-rewritten-kinds.ps
 reduce-rewritten-at t =
@@ -128,11 +153,14 @@ reduce-child-calls t = (waits-at-reads.Asked, waits-at-reads.Learnt, hold-reads.
 abbrev reduce-children-calls : ℕ → reduce-children-lts.Claims
 reduce-children-calls t = (subtree-at-reads.Asked, subtree-at-reads.Learnt, reduce-child-below t, reduce-child.Post)
 
+abbrev reduce-conditional-calls : ℕ → reduce-conditional-lts.Claims
+reduce-conditional-calls t = (subtree-at-reads.Asked, subtree-at-reads.Learnt, remove-unused-expression-below t, remove-unused-expression.Post, copy-records-reads.Asked, copy-records-reads.Learnt, join-arms-reads.Asked, join-arms-reads.Learnt)
+
 abbrev reduce-rewritten-calls : ℕ → reduce-rewritten-lts.Claims
 reduce-rewritten-calls t = (reduce-children-below t, reduce-children.Post, remove-unused-sequence-expr-reads.Asked, remove-unused-sequence-expr-reads.Learnt, remove-unused-array-expr-reads.Asked, remove-unused-array-expr-reads.Learnt, close-template-reads.Asked, close-template-reads.Learnt, close-object-reads.Asked, close-object-reads.Learnt, join-kept-reads.Asked, join-kept-reads.Learnt)
 
 abbrev remove-unused-expression-calls : ℕ → remove-unused-expression-lts.Claims
-remove-unused-expression-calls t = (handle-reads.Asked, handle-reads.Learnt, copy-tree-reads.Asked, copy-tree-reads.Learnt, reduce-children-below t, reduce-children.Post, reduce-rewritten-below t, reduce-rewritten.Post, first-size-reads.Asked, first-size-reads.Learnt, none-one-several-reads.Asked, none-one-several-reads.Learnt, remove-unused-addition-reads.Asked, remove-unused-addition-reads.Learnt, remove-unused-class-reads.Asked, remove-unused-class-reads.Learnt)
+remove-unused-expression-calls t = (handle-reads.Asked, handle-reads.Learnt, copy-tree-reads.Asked, copy-tree-reads.Learnt, reduce-children-below t, reduce-children.Post, reduce-rewritten-below t, reduce-rewritten.Post, first-size-reads.Asked, first-size-reads.Learnt, none-one-several-reads.Asked, none-one-several-reads.Learnt, remove-unused-addition-reads.Asked, remove-unused-addition-reads.Learnt, remove-unused-class-reads.Asked, remove-unused-class-reads.Learnt, reduce-conditional-below t, reduce-conditional.Post)
 
 reduce-child-waits-at-requires : (t : ℕ) → reduce-child-lts.Need-waits-at-requires (reduce-child-calls t) (reduce-child-at t) reduce-child.Post
 reduce-child-waits-at-requires t c κs = child-inside (c .before .before .pre .1)
@@ -206,6 +234,69 @@ reduce-children-same-length t c = search needs
 
 reduce-children-returns : (t : ℕ) → reduce-children-lts.Need-returns (reduce-children-calls t) (reduce-children-at t) reduce-children.Post reduce-children-Inv-loop reduce-children-μ-loop
 reduce-children-returns t c = walk-done (c .before .loop .inv) (c .loop-test .left)
+
+reduce-conditional-sub-below : (t : ℕ) → reduce-conditional-lts.Need-sub-below (reduce-conditional-calls t) (reduce-conditional-at t) reduce-conditional.Post
+reduce-conditional-sub-below t c = omega (arith, some-depth ((c .before .before .pre .1 .given) .input))
+
+reduce-conditional-add-test : (t : ℕ) → reduce-conditional-lts.Need-add-test (reduce-conditional-calls t) (reduce-conditional-at t) reduce-conditional.Post
+reduce-conditional-add-test t c = omega (arith, given-inside (c .before .before .pre .1 .given))
+
+reduce-conditional-subtree-at-requires : (t : ℕ) → reduce-conditional-lts.Need-subtree-at-requires (reduce-conditional-calls t) (reduce-conditional-at t) reduce-conditional.Post
+reduce-conditional-subtree-at-requires t c κs = omega (arith, arms-within (c .before .before .pre .1 .handles) refl refl (c .before .before .pre .1 .given), (c .before .before .pre .1 .given) .input .inside)
+
+reduce-conditional-add-first : (t : ℕ) → reduce-conditional-lts.Need-add-first (reduce-conditional-calls t) (reduce-conditional-at t) reduce-conditional.Post
+reduce-conditional-add-first t c = omega (arith, arms-within (c .before .before .before .pre .1 .handles) (c .subtree-at .ensures .0) refl (c .before .before .before .pre .1 .given), (c .before .before .before .pre .1 .given) .input .inside)
+
+reduce-conditional-subtree-at-requires-2 : (t : ℕ) → reduce-conditional-lts.Need-subtree-at-requires-2 (reduce-conditional-calls t) (reduce-conditional-at t) reduce-conditional.Post
+reduce-conditional-subtree-at-requires-2 t c κs = omega (arith, arms-within (c .before .before .before .pre .1 .handles) (c .subtree-at .ensures .0) refl (c .before .before .before .pre .1 .given), (c .before .before .before .pre .1 .given) .input .inside)
+
+reduce-conditional-add-second : (t : ℕ) → reduce-conditional-lts.Need-add-second (reduce-conditional-calls t) (reduce-conditional-at t) reduce-conditional.Post
+reduce-conditional-add-second t c = omega (arith, arms-within (c .before .before .before .before .pre .1 .handles) (c .before .subtree-at .ensures .0) (c .subtree-at2 .ensures .0) (c .before .before .before .before .pre .1 .given), (c .before .before .before .before .pre .1 .given) .input .inside)
+
+reduce-conditional-sub-second-size : (t : ℕ) → reduce-conditional-lts.Need-sub-second-size (reduce-conditional-calls t) (reduce-conditional-at t) reduce-conditional.Post
+reduce-conditional-sub-second-size t c = omega (arith, arms-within (c .before .before .before .before .pre .1 .handles) (c .before .subtree-at .ensures .0) (c .subtree-at2 .ensures .0) (c .before .before .before .before .pre .1 .given))
+
+reduce-conditional-sub-second-size-2 : (t : ℕ) → reduce-conditional-lts.Need-sub-second-size-2 (reduce-conditional-calls t) (reduce-conditional-at t) reduce-conditional.Post
+reduce-conditional-sub-second-size-2 t c = omega (arith, arms-within (c .before .before .before .before .pre .1 .handles) (c .before .subtree-at .ensures .0) (c .subtree-at2 .ensures .0) (c .before .before .before .before .pre .1 .given))
+
+reduce-conditional-sub-second-size-3 : (t : ℕ) → reduce-conditional-lts.Need-sub-second-size-3 (reduce-conditional-calls t) (reduce-conditional-at t) reduce-conditional.Post
+reduce-conditional-sub-second-size-3 t c = omega (arith, arms-within (c .before .before .before .before .pre .1 .handles) (c .before .subtree-at .ensures .0) (c .subtree-at2 .ensures .0) (c .before .before .before .before .pre .1 .given))
+
+reduce-conditional-add-arms : (t : ℕ) → reduce-conditional-lts.Need-add-arms (reduce-conditional-calls t) (reduce-conditional-at t) reduce-conditional.Post
+reduce-conditional-add-arms t c = omega (arith, arms-within (c .before .before .before .before .pre .1 .handles) (c .before .subtree-at .ensures .0) (c .subtree-at2 .ensures .0) (c .before .before .before .before .pre .1 .given), (c .before .before .before .before .pre .1 .given) .fits)
+
+reduce-conditional-add-arms-2 : (t : ℕ) → reduce-conditional-lts.Need-add-arms-2 (reduce-conditional-calls t) (reduce-conditional-at t) reduce-conditional.Post
+reduce-conditional-add-arms-2 t c = omega (arith, arms-within (c .before .before .before .before .pre .1 .handles) (c .before .subtree-at .ensures .0) (c .subtree-at2 .ensures .0) (c .before .before .before .before .pre .1 .given), (c .before .before .before .before .pre .1 .given) .fits)
+
+reduce-conditional-remove-unused-expression-requires : (t : ℕ) → reduce-conditional-lts.Need-remove-unused-expression-requires (reduce-conditional-calls t) (reduce-conditional-at t) reduce-conditional.Post
+reduce-conditional-remove-unused-expression-requires t c κs = (omega (arith, c .before .before .before .before .before .pre .0, some-depth ((c .before .before .before .before .before .pre .1 .given) .input), arms-within (c .before .before .before .before .before .pre .1 .handles) (c .before .before .subtree-at .ensures .0) (c .before .subtree-at2 .ensures .0) (c .before .before .before .before .before .pre .1 .given)), consequent-given (c .before .before .before .before .before .pre .1 .handles) (c .before .before .subtree-at .ensures .0) (c .before .subtree-at2 .ensures .0) (c .before .before .before .before .before .pre .1 .given))
+
+reduce-conditional-remove-unused-expression-requires-2 : (t : ℕ) → reduce-conditional-lts.Need-remove-unused-expression-requires-2 (reduce-conditional-calls t) (reduce-conditional-at t) reduce-conditional.Post
+reduce-conditional-remove-unused-expression-requires-2 t c κs = (omega (arith, c .before .before .before .before .before .before .before .before .before .pre .0, some-depth ((c .before .before .before .before .before .before .before .before .before .pre .1 .given) .input), arms-within (c .before .before .before .before .before .before .before .before .before .pre .1 .handles) (c .before .before .before .before .before .before .subtree-at .ensures .0) (c .before .before .before .before .before .subtree-at2 .ensures .0) (c .before .before .before .before .before .before .before .before .before .pre .1 .given)), alternate-given (c .before .before .before .before .before .before .before .before .before .pre .1 .handles) (c .before .before .before .before .before .before .subtree-at .ensures .0) (c .before .before .before .before .before .subtree-at2 .ensures .0) _ (c .before .before .before .remove-unused-expression .ensures) (c .before .before .before .before .before .before .before .before .before .pre .1 .given) refl)
+
+reduce-conditional-remove-unused-expression-requires-3 : (t : ℕ) → reduce-conditional-lts.Need-remove-unused-expression-requires-3 (reduce-conditional-calls t) (reduce-conditional-at t) reduce-conditional.Post
+reduce-conditional-remove-unused-expression-requires-3 t c κs = (omega (arith, c .before .before .before .before .before .before .before .before .before .before .before .before .before .before .pre .0, some-depth ((c .before .before .before .before .before .before .before .before .before .before .before .before .before .before .pre .1 .given) .input), arms-within (c .before .before .before .before .before .before .before .before .before .before .before .before .before .before .pre .1 .handles) (c .before .before .before .before .before .before .before .before .before .before .before .subtree-at .ensures .0) (c .before .before .before .before .before .before .before .before .before .before .subtree-at2 .ensures .0) (c .before .before .before .before .before .before .before .before .before .before .before .before .before .before .pre .1 .given)), test-given (c .before .before .before .before .before .before .before .before .before .before .before .before .before .before .pre .1 .handles) (c .before .before .before .before .before .before .before .before .before .before .before .subtree-at .ensures .0) (c .before .before .before .before .before .before .before .before .before .before .subtree-at2 .ensures .0) _ (c .before .before .before .before .before .before .before .before .remove-unused-expression .ensures) (c .before .before .before .before .remove-unused-expression2 .ensures) (c .before .before .before .before .before .before .before .before .before .before .before .before .before .before .pre .1 .given) refl)
+
+reduce-conditional-same-length : (t : ℕ) → reduce-conditional-lts.Need-same-length (reduce-conditional-calls t) (reduce-conditional-at t) reduce-conditional.Post
+reduce-conditional-same-length t c = search needs
+
+reduce-conditional-returns : (t : ℕ) → reduce-conditional-lts.Need-returns (reduce-conditional-calls t) (reduce-conditional-at t) reduce-conditional.Post
+reduce-conditional-returns t c = both-gone (c .before .before .before .before .before .before .before .before .before .before .before .before .before .before .before .before .before .pre .1 .handles) (c .before .before .before .before .before .before .before .before .before .before .before .before .before .before .subtree-at .ensures .0) (c .before .before .before .before .before .before .before .before .before .before .before .before .before .subtree-at2 .ensures .0) _ (c .before .before .before .before .before .before .before .before .before .before .before .remove-unused-expression .ensures) (c .before .before .before .before .before .before .before .remove-unused-expression2 .ensures) (c .before .before .before .before .if1 .taken) (c .before .before .remove-unused-expression3 .ensures)
+
+reduce-conditional-add-copy-records : (t : ℕ) → reduce-conditional-lts.Need-add-copy-records (reduce-conditional-calls t) (reduce-conditional-at t) reduce-conditional.Post
+reduce-conditional-add-copy-records t c = omega (arith, arms-within (c .before .before .before .before .before .before .before .before .before .before .before .before .before .before .pre .1 .handles) (c .before .before .before .before .before .before .before .before .before .before .before .subtree-at .ensures .0) (c .before .before .before .before .before .before .before .before .before .before .subtree-at2 .ensures .0) (c .before .before .before .before .before .before .before .before .before .before .before .before .before .before .pre .1 .given), (c .before .before .before .before .before .before .before .before .before .before .before .before .before .before .pre .1 .given) .fits)
+
+reduce-conditional-copy-records-requires : (t : ℕ) → reduce-conditional-lts.Need-copy-records-requires (reduce-conditional-calls t) (reduce-conditional-at t) reduce-conditional.Post
+reduce-conditional-copy-records-requires t c κs = (omega (arith, arms-within (c .before .before .before .before .before .before .before .before .before .before .before .before .before .before .pre .1 .handles) (c .before .before .before .before .before .before .before .before .before .before .before .subtree-at .ensures .0) (c .before .before .before .before .before .before .before .before .before .before .subtree-at2 .ensures .0) (c .before .before .before .before .before .before .before .before .before .before .before .before .before .before .pre .1 .given), (c .before .before .before .before .before .before .before .before .before .before .before .before .before .before .pre .1 .given) .input .inside), test-room (c .before .before .before .before .before .before .before .before .before .before .before .before .before .before .pre .1 .handles) (c .before .before .before .before .before .before .before .before .before .before .before .subtree-at .ensures .0) (c .before .before .before .before .before .before .before .before .before .before .subtree-at2 .ensures .0) _ (c .before .before .before .before .before .before .before .before .remove-unused-expression .ensures) (c .before .before .before .before .remove-unused-expression2 .ensures) (c .before .before .before .before .before .before .before .before .before .before .before .before .before .before .pre .1 .given) refl)
+
+reduce-conditional-join-arms-requires : (t : ℕ) → reduce-conditional-lts.Need-join-arms-requires (reduce-conditional-calls t) (reduce-conditional-at t) reduce-conditional.Post
+reduce-conditional-join-arms-requires t c κs = arms-given (c .before .before .before .before .before .before .before .before .before .before .before .before .before .before .before .before .before .before .pre .1 .handles) (c .before .before .before .before .before .before .before .before .before .before .before .before .before .before .before .subtree-at .ensures .0) (c .before .before .before .before .before .before .before .before .before .before .before .before .before .before .subtree-at2 .ensures .0) _ (c .before .before .before .before .before .before .before .before .before .before .before .before .remove-unused-expression .ensures) (c .before .before .before .before .before .before .before .before .remove-unused-expression2 .ensures) (c .before .before .before .copy-records .ensures) (c .before .before .before .before .before .before .before .before .before .before .before .before .before .before .before .before .before .before .pre .1 .given) refl (c .before .before .before .before .before .if1 .left)
+
+reduce-conditional-same-length-2 : (t : ℕ) → reduce-conditional-lts.Need-same-length-2 (reduce-conditional-calls t) (reduce-conditional-at t) reduce-conditional.Post
+reduce-conditional-same-length-2 t c = search needs
+
+reduce-conditional-returns-2 : (t : ℕ) → reduce-conditional-lts.Need-returns-2 (reduce-conditional-calls t) (reduce-conditional-at t) reduce-conditional.Post
+reduce-conditional-returns-2 t c = conditional-done (c .before .before .before .before .before .before .before .before .before .before .before .before .before .before .before .before .before .before .before .before .before .pre .1 .handles) (c .before .before .before .before .before .before .before .before .before .before .before .before .before .before .before .before .before .before .subtree-at .ensures .0) (c .before .before .before .before .before .before .before .before .before .before .before .before .before .before .before .before .before .subtree-at2 .ensures .0) _ (c .before .before .before .before .before .before .before .before .before .before .before .before .before .before .before .remove-unused-expression .ensures) (c .before .before .before .before .before .before .before .before .before .before .before .remove-unused-expression2 .ensures) (c .before .before .before .before .before .before .copy-records .ensures) (c .before .before .join-arms .ensures)
 
 reduce-rewritten-add-first : (t : ℕ) → reduce-rewritten-lts.Need-add-first (reduce-rewritten-calls t) (reduce-rewritten-at t) reduce-rewritten.Post
 reduce-rewritten-add-first t c = omega (arith, given-inside (c .before .before .pre .1 .given))
@@ -360,6 +451,12 @@ remove-unused-expression-enum-told-6 t c = search needs
 remove-unused-expression-remove-unused-class-requires : (t : ℕ) → remove-unused-expression-lts.Need-remove-unused-class-requires (remove-unused-expression-calls t) (remove-unused-expression-at t) remove-unused-expression.Post
 remove-unused-expression-remove-unused-class-requires t c κs = class-given (as-outcome Class (c .before .enum-told6 .given .1) (c .before .before .before .handle .ensures)) (c .before .before .before .before .before .before .pre .1)
 
+remove-unused-expression-enum-told-7 : (t : ℕ) → remove-unused-expression-lts.Need-enum-told-7 (remove-unused-expression-calls t) (remove-unused-expression-at t) remove-unused-expression.Post
+remove-unused-expression-enum-told-7 t c = search needs
+
+remove-unused-expression-reduce-conditional-requires : (t : ℕ) → remove-unused-expression-lts.Need-reduce-conditional-requires (remove-unused-expression-calls t) (remove-unused-expression-at t) remove-unused-expression.Post
+remove-unused-expression-reduce-conditional-requires t c κs = (omega (arith, c .before .before .before .before .before .before .pre .0), record { given = c .before .before .before .before .before .before .pre .1; handles = as-outcome Conditional (c .before .enum-told7 .given .1) (c .before .before .before .handle .ensures) })
+
 remove-unused-expression-returns : (t : ℕ) → remove-unused-expression-lts.Need-returns (remove-unused-expression-calls t) (remove-unused-expression-at t) remove-unused-expression.Post
 remove-unused-expression-returns t c = removable-done (as-outcome Removable (c .enum-told .given .1) (c .before .before .handle .ensures))
 
@@ -399,12 +496,19 @@ remove-unused-expression-same-length-6 t c = search needs
 remove-unused-expression-returns-7 : (t : ℕ) → remove-unused-expression-lts.Need-returns-7 (remove-unused-expression-calls t) (remove-unused-expression-at t) remove-unused-expression.Post
 remove-unused-expression-returns-7 t c = class-done (as-outcome Class (c .before .before .before .before .enum-told6 .given .1) (c .before .before .before .before .before .before .handle .ensures)) (c .before .before .remove-unused-class .ensures)
 
-pub +reduce-child+reduce-children+reduce-rewritten+remove-unused-expression-spec :
+remove-unused-expression-same-length-7 : (t : ℕ) → remove-unused-expression-lts.Need-same-length-7 (remove-unused-expression-calls t) (remove-unused-expression-at t) remove-unused-expression.Post
+remove-unused-expression-same-length-7 t c = search needs
+
+remove-unused-expression-returns-8 : (t : ℕ) → remove-unused-expression-lts.Need-returns-8 (remove-unused-expression-calls t) (remove-unused-expression-at t) remove-unused-expression.Post
+remove-unused-expression-returns-8 t c = c .before .before .reduce-conditional .ensures
+
+pub +reduce-child+reduce-children+reduce-conditional+reduce-rewritten+remove-unused-expression-spec :
     {M : Type 1} → statement M
-+reduce-child+reduce-children+reduce-rewritten+remove-unused-expression-spec =
++reduce-child+reduce-children+reduce-conditional+reduce-rewritten+remove-unused-expression-spec =
     close
     μ-reduce-child
     μ-reduce-children
+    μ-reduce-conditional
     μ-reduce-rewritten
     μ-remove-unused-expression
     (λ t. reduce-child-lts.spec (reduce-child-calls t)
@@ -437,6 +541,30 @@ pub +reduce-child+reduce-children+reduce-rewritten+remove-unused-expression-spec
     (reduce-children-loop-again t)
     (reduce-children-same-length t)
     (reduce-children-returns t))
+    (λ t. reduce-conditional-lts.spec (reduce-conditional-calls t)
+    (reduce-conditional-at t)
+    reduce-conditional.Post
+    (reduce-conditional-sub-below t)
+    (reduce-conditional-add-test t)
+    (reduce-conditional-subtree-at-requires t)
+    (reduce-conditional-add-first t)
+    (reduce-conditional-subtree-at-requires-2 t)
+    (reduce-conditional-add-second t)
+    (reduce-conditional-sub-second-size t)
+    (reduce-conditional-sub-second-size-2 t)
+    (reduce-conditional-sub-second-size-3 t)
+    (reduce-conditional-add-arms t)
+    (reduce-conditional-add-arms-2 t)
+    (reduce-conditional-remove-unused-expression-requires t)
+    (reduce-conditional-remove-unused-expression-requires-2 t)
+    (reduce-conditional-remove-unused-expression-requires-3 t)
+    (reduce-conditional-same-length t)
+    (reduce-conditional-returns t)
+    (reduce-conditional-add-copy-records t)
+    (reduce-conditional-copy-records-requires t)
+    (reduce-conditional-join-arms-requires t)
+    (reduce-conditional-same-length-2 t)
+    (reduce-conditional-returns-2 t))
     (λ t. reduce-rewritten-lts.spec (reduce-rewritten-calls t)
     (reduce-rewritten-at t)
     reduce-rewritten.Post
@@ -494,6 +622,8 @@ pub +reduce-child+reduce-children+reduce-rewritten+remove-unused-expression-spec
     (remove-unused-expression-remove-unused-addition-requires t)
     (remove-unused-expression-enum-told-6 t)
     (remove-unused-expression-remove-unused-class-requires t)
+    (remove-unused-expression-enum-told-7 t)
+    (remove-unused-expression-reduce-conditional-requires t)
     (remove-unused-expression-returns t)
     (remove-unused-expression-same-length t)
     (remove-unused-expression-returns-2 t)
@@ -507,3 +637,5 @@ pub +reduce-child+reduce-children+reduce-rewritten+remove-unused-expression-spec
     (remove-unused-expression-returns-6 t)
     (remove-unused-expression-same-length-6 t)
     (remove-unused-expression-returns-7 t)
+    (remove-unused-expression-same-length-7 t)
+    (remove-unused-expression-returns-8 t)

@@ -4,21 +4,21 @@ use Prim.Native.Nat.{_-_, _≤_}
 use native.Mathlib.Omega.{arith}
 use Rattle.tree.specs.Below.{allBelow, all-none, all-more, all-fails}
 use Rattle.tree.specs.Fields.{headAt}
-use Rattle.tree.specs.Record.{included}
-use Rattle.file.proofs.record.all_included.Statement.{statement}
-use Rattle.file.proofs.record.all_included.Tie as tie
+use Rattle.tree.specs.Record.{taken}
+use Rattle.file.proofs.record.all_taken.Statement.{statement}
+use Rattle.file.proofs.record.all_taken.Tie as tie
 
 abbrev Inv-loop : tie.InvT-loop
-Inv-loop src n i₀ i = (i ≤ n) × (allBelow (λ j. included (headAt src j)) i ≡ true)
+Inv-loop src n logicals i₀ i = (i ≤ n) × (allBelow (λ j. taken logicals (headAt src j)) i ≡ true)
 
 abbrev μ-loop : tie.MeasureT-loop
-μ-loop src n i₀ i = n - i
+μ-loop src n logicals i₀ i = n - i
 
 loop-holds : tie.Need-loop-holds Inv-loop μ-loop
 loop-holds c = (omega arith, all-none _)
 
-included-requires : tie.Need-included-requires Inv-loop μ-loop
-included-requires c κs = omega arith
+taken-requires : tie.Need-taken-requires Inv-loop μ-loop
+taken-requires c κs = omega arith
 
 add-i : tie.Need-add-i Inv-loop μ-loop
 add-i c = omega arith
@@ -27,22 +27,22 @@ loop-less : tie.Need-loop-less Inv-loop μ-loop
 loop-less c = omega arith
 
 loop-again : tie.Need-loop-again Inv-loop μ-loop
-loop-again c = (omega arith, all-more _ _ (c .before .before .before .loop .inv .1) (sym (c .before .included .ensures) ∙ c .if1 .taken))
+loop-again c = (omega arith, all-more _ _ (c .before .before .before .loop .inv .1) (sym (c .before .taken .ensures) ∙ c .if1 .taken))
 
 returns : tie.Need-returns Inv-loop μ-loop
-returns c = sym (all-fails _ _ _ (sym (c .before .included .ensures) ∙ c .if1 .left) (c .before .before .loop-test .taken))
+returns c = sym (all-fails _ _ _ (sym (c .before .taken .ensures) ∙ c .if1 .left) (c .before .before .loop-test .taken))
 
 returns-2 : tie.Need-returns-2 Inv-loop μ-loop
 returns-2 c = let e : c .before .before .before .args .n ≡ c .before .loop .i = omega arith in rw e (sym (c .before .loop .inv .1))
 
-pub all-included-spec : {M : Type 1} → statement M
-all-included-spec =
+pub all-taken-spec : {M : Type 1} → statement M
+all-taken-spec =
     tie.close
     (tie.spec
     Inv-loop
     μ-loop
     loop-holds
-    included-requires
+    taken-requires
     add-i
     loop-less
     loop-again
