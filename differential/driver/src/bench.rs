@@ -2,6 +2,7 @@
 
 use std::io;
 
+use crate::file;
 use crate::oracle::Oracle;
 use crate::side::Side;
 use crate::speed::{self, ROUNDS};
@@ -9,8 +10,10 @@ use crate::speed::{self, ROUNDS};
 /// The sizes of the files, in records. Reduce takes 2,000 at most.
 const SIZES: [usize; 4] = [10, 200, 2_000, 3_999];
 const MOST_REDUCED: usize = 2_000;
+/// Those of the files with conditionals, which the others do not have.
+const CHOOSING: usize = 200;
 
-/// A line for each operation and size: nanoseconds a record of the port, of each other side, of the
+/// A line for each operation and size, `?:` of files with conditionals: nanoseconds a record of the port, of each other side, of the
 /// oracle if there is one, and of a copy of the file's bytes, which is the least that any could take;
 /// and behind each of these the ratio to the port. Medians, as `driver speed` takes them.
 pub fn table(
@@ -22,12 +25,7 @@ pub fn table(
     let has_oracle = oracle.is_some();
     for records in SIZES {
         let files = speed::files(records, seed);
-        let copy = speed::copy(&files);
-        let line = |operation: &str, mut times: Vec<Option<f64>>, oracle: Option<f64>| {
-            times.extend(has_oracle.then_some(oracle));
-            times.push(Some(copy));
-            line(operation, records, &times)
-        };
+        let line = liner(&files, has_oracle);
         let drawn = speed::measure(sides, &files);
         checked += &line("check", drawn.iter().map(|measured| measured.check).collect(), None);
         if records <= MOST_REDUCED {
@@ -37,7 +35,26 @@ pub fn table(
         }
         listed += &line("List effects", drawn.iter().map(|measured| measured.list).collect(), None);
     }
+    let files = speed::choosing_files(CHOOSING, seed);
+    let line = liner(&files, has_oracle);
+    let (times, stages) = speed::reduce(sides, oracle, &files)?;
+    reduced += &line("Reduce, ?:", times, stages.map(|stages| stages.all));
+    listed += &line("List, ?:", speed::list(sides, &files), None);
     Ok(head(sides, has_oracle, seed) + &reduced + &listed + &checked)
+}
+
+/// A line for the times of an operation on these files, with the oracle's, if there is one, and those
+/// of a copy.
+fn liner(
+    files: &[Vec<u8>],
+    has_oracle: bool,
+) -> impl Fn(&str, Vec<Option<f64>>, Option<f64>) -> String {
+    let (records, copy) = (file::count(&files[0]), speed::copy(files));
+    move |operation, mut times, oracle| {
+        times.extend(has_oracle.then_some(oracle));
+        times.push(Some(copy));
+        line(operation, records, &times)
+    }
 }
 
 fn head(sides: &[&dyn Side], has_oracle: bool, seed: u64) -> String {

@@ -1,10 +1,14 @@
 //! Holds the sides to each other and to what document 01 promises of every answer.
 
+use std::iter;
+
 use port::Limits;
 
 use crate::damage::Damaged;
 use crate::file;
 use crate::hits::{self, Hits};
+use crate::listing_hits;
+use crate::logicals;
 use crate::oracle::Oracle;
 use crate::random::Random;
 use crate::side::{Answer, Listing, Reduction, Side};
@@ -63,8 +67,14 @@ pub struct Tally {
     /// The same for lists and their entries.
     pub lists: u64,
     pub entries: u64,
+    /// Files with logicals, for List effects alone.
+    pub listed: u64,
+    /// Trees, with no place that counts as yes.
     pub premise_true: u64,
     pub premise_false: u64,
+    /// Lists of places that count as yes, of all trees.
+    pub premise_true_given: u64,
+    pub premise_false_given: u64,
     pub removable: u64,
     pub kept: u64,
     /// Refusals met, by number.
@@ -93,51 +103,89 @@ impl<'s> Comparator<'s> {
         if held { Ok(()) } else { Err(seen()) }
     }
 
-    /// The file must be accepted, and every promise of document 01 hold of the answer.
-    pub fn accepted(&mut self, file: &[u8], more_room: usize) -> Result<(), Difference> {
+    /// The file must be accepted, and every promise of document 01 hold of the answer, also under each
+    /// of these lists of places that count as yes.
+    pub fn accepted(
+        &mut self,
+        file: &[u8],
+        more_room: usize,
+        lists: &[Vec<u32>],
+    ) -> Result<(), Difference> {
         self.tally.trees += 1;
         self.checked(file, 0, 0)?;
         let (reduction, answer) = self.reduce(file, file::output_room(file) + more_room)?;
-        let (listing, effects) = self.list(file, 2 * file::count(file) + more_room)?;
-        let numbers = (reduction.number, listing.number);
-        self.check(numbers == (0, 0), || format!("an accepted file is refused: {numbers:?}"))?;
-        let effects_after = if answer.is_empty() {
+        self.not_refused("Reduce", reduction.number)?;
+        if answer.is_empty() {
             self.tally.removable += 1;
-            Vec::new()
         } else {
             self.tally.kept += 1;
-            self.kept(file, &answer)?
-        };
-        self.demand_3(file, &effects, &effects_after)?;
-        if self.oracle.is_some() {
-            self.waiting.0.push(file.to_vec());
-            self.waiting.1.push(answer);
-            if self.waiting.0.len() == BATCH {
-                self.ask_oracle()?;
-            }
+            self.kept(file, &answer)?;
+        }
+        let tree =
+            port::check(file, Limits::REDUCE).map_err(|n| format!("the port refuses: {n}"))?;
+        let marks = port::outcomes(tree);
+        self.tally.hits.add(&hits::of_tree(tree, &marks));
+        let holds = port::premise(tree, &marks, &[]);
+        self.demand_3(file, &answer, None, more_room, holds)?;
+        for yes in lists {
+            self.tally.hits.add(&listing_hits::of_list(tree, yes));
+            let holds = port::premise(tree, &marks, yes);
+            self.demand_3(file, &answer, Some(yes), more_room, holds)?;
+        }
+        self.wait_for_oracle(file, answer)
+    }
+
+    fn not_refused(&mut self, what: &str, number: u8) -> Result<(), Difference> {
+        self.check(number == 0, || format!("{what} refuses: {number}"))
+    }
+
+    /// List effects must take the file, also under each of these lists, and Reduce refuse it: "Kind 20
+    /// ... is read by the effect listing ...; the reducer still refuses it with 6" (02, N1).
+    pub fn listed(&mut self, file: &[u8], lists: &[Vec<u32>]) -> Result<(), Difference> {
+        self.tally.listed += 1;
+        self.checked(file, 6, 0)?;
+        let (reduction, _) = self.reduce(file, file::output_room(file))?;
+        self.check(reduction.number == 6, || format!("refused by {}, not 6", reduction.number))?;
+        let conditionals = logicals::as_conditionals(file);
+        let tree = port::check(file, Limits::LIST_EFFECTS)
+            .map_err(|n| format!("the port refuses: {n}"))?;
+        for yes in iter::once(None).chain(lists.iter().map(|yes| Some(&yes[..]))) {
+            self.tally.hits.add(&listing_hits::of_list(tree, yes.unwrap_or_default()));
+            let effects = self.effects_of(file, yes, 0)?;
+            let same = self.effects_of(&conditionals, yes, 0)?;
+            let renamed = effects.iter().map(|&entry| logicals::as_conditional(entry));
+            self.check(renamed.eq(same.iter().copied()), || {
+                format!("under {yes:?} effects {effects:?}, as conditionals {same:?}")
+            })?;
         }
         Ok(())
     }
 
     /// The sides must answer this file with these bytes; none: removable.
     pub fn answers(&mut self, file: &[u8], expected: &[u8]) -> Result<(), Difference> {
-        self.accepted(file, 0)?;
+        self.accepted(file, 0, &[])?;
         let (_, answer) = self.reduce(file, file::output_room(file))?;
         self.check(answer == expected, || {
             format!("{}{}", file::show(file), reduced_otherwise("the list", expected, &answer))
         })
     }
 
-    /// The sides must list these effects.
-    pub fn effects(&mut self, file: &[u8], expected: &[u64]) -> Result<(), Difference> {
-        let (_, effects) = self.list(file, 2 * file::count(file))?;
-        self.check(effects == expected, || format!("effects {effects:?}, not {expected:?}"))
+    /// The sides must list these effects where these places count as yes.
+    pub fn effects(
+        &mut self,
+        file: &[u8],
+        yes: &[u32],
+        expected: &[u64],
+    ) -> Result<(), Difference> {
+        let effects = self.effects_of(file, Some(yes), 0)?;
+        self.check(effects == expected, || {
+            format!("under {yes:?} effects {effects:?}, not {expected:?}")
+        })
     }
 
     /// What holds of every kept answer: it is a tree file under the same settings, with at most
-    /// 2 × N − 1 records and at most one level more, and the listing takes it. Answers with its
-    /// effects.
-    fn kept(&mut self, file: &[u8], answer: &[u8]) -> Result<Vec<u64>, Difference> {
+    /// 2 × N − 1 records and at most one level more, and the listing takes it.
+    fn kept(&mut self, file: &[u8], answer: &[u8]) -> Result<(), Difference> {
         self.check(answer[..6] == file[..6], || "the header is not copied".to_string())?;
         let (before, after) = (file::count(file), file::count(answer));
         let length = file::HEADER + file::RECORD * after;
@@ -145,35 +193,58 @@ impl<'s> Comparator<'s> {
             format!("{} bytes for {after} records", answer.len())
         })?;
         self.check(after < 2 * before, || format!("{after} records from {before}"))?;
-        let (listing, effects) = self.list(answer, 2 * after)?;
-        self.check(listing.number == 0, || format!("the listing refuses: {}", listing.number))?;
+        self.effects_of(answer, None, 0)?;
         let depths = (file::depth(file), file::depth(answer));
-        self.check(depths.1 <= depths.0 + 1, || format!("depth {} from {}", depths.1, depths.0))?;
+        self.check(depths.1 <= depths.0 + 1, || format!("depth {} from {}", depths.1, depths.0))
+    }
+
+    /// The effects of a file that the listing takes: under 2 × N of them. None: no list is lent.
+    fn effects_of(
+        &mut self,
+        file: &[u8],
+        yes: Option<&[u32]>,
+        more_room: usize,
+    ) -> Result<Vec<u64>, Difference> {
+        let room = 2 * file::count(file);
+        let (listing, effects) = self.list(file, yes, room + more_room)?;
+        self.not_refused("List effects", listing.number)?;
+        self.check(effects.len() < room, || format!("{} entries of {room}", effects.len()))?;
         Ok(effects)
     }
 
     /// "Demand 3 compares the accepted tree's list with the kept answer's, in length and at every
-    /// entry", where each clear flag that was read is true.
-    fn demand_3(&mut self, file: &[u8], before: &[u64], after: &[u64]) -> Result<(), Difference> {
-        let tree =
-            port::check(file, Limits::REDUCE).map_err(|n| format!("the port refuses: {n}"))?;
-        let marks = port::outcomes(tree);
-        self.tally.hits.add(&hits::of_tree(tree, &marks));
-        if !port::premise(tree, &marks) {
-            self.tally.premise_false += 1;
-            return Ok(());
-        }
-        self.tally.premise_true += 1;
-        self.check(before == after, || format!("effects {before:?} become {after:?}"))
+    /// entry", where each clear flag that was read is true: the premise holds. "For every such list
+    /// the effects must be equal" (02, N1).
+    fn demand_3(
+        &mut self,
+        file: &[u8],
+        answer: &[u8],
+        yes: Option<&[u32]>,
+        more_room: usize,
+        holds: bool,
+    ) -> Result<(), Difference> {
+        let before = self.effects_of(file, yes, more_room)?;
+        let after = if answer.is_empty() { Vec::new() } else { self.effects_of(answer, yes, 0)? };
+        let tally = &mut self.tally;
+        *match (yes, holds) {
+            (None, true) => &mut tally.premise_true,
+            (None, false) => &mut tally.premise_false,
+            (Some(_), true) => &mut tally.premise_true_given,
+            (Some(_), false) => &mut tally.premise_false_given,
+        } += 1;
+        self.check(!holds || before == after, || {
+            format!("under {yes:?} effects {before:?} become {after:?}")
+        })
     }
 
-    /// The file must be refused by the numbers that its damage calls for.
-    pub fn refused(&mut self, case: &Damaged) -> Result<(), Difference> {
+    /// The file must be refused by the numbers that its damage calls for, whatever list is lent.
+    pub fn refused(&mut self, case: &Damaged, yes: &[u32]) -> Result<(), Difference> {
         self.tally.damaged += 1;
         let (reduction, _) = self.reduce(&case.file, case.output_room)?;
-        let (listing, _) = self.list(&case.file, case.entry_room)?;
-        let seen = (reduction.number, listing.number);
-        let due = (case.reduce, case.list);
+        let (listing, _) = self.list(&case.file, None, case.entry_room)?;
+        let (given, _) = self.list(&case.file, Some(yes), case.entry_room)?;
+        let seen = (reduction.number, listing.number, given.number);
+        let due = (case.reduce, case.list, case.list);
         self.check(seen == due, || format!("refused by {seen:?}, where {due:?} is due"))?;
         let of_file = |number: u8| if number > 8 { 0 } else { number };
         self.checked(&case.file, of_file(case.reduce), of_file(case.list))?;
@@ -192,9 +263,11 @@ impl<'s> Comparator<'s> {
         file: &[u8],
         output_room: usize,
         entry_room: usize,
+        yes: &[u32],
     ) -> Result<(), Difference> {
         self.reduce(file, output_room)?;
-        self.list(file, entry_room)?;
+        self.list(file, None, entry_room)?;
+        self.list(file, Some(yes), entry_room)?;
         let first = |limits: Limits| self.sides[0].check(file, limits).unwrap_or_default();
         self.checked(file, first(Limits::REDUCE), first(Limits::LIST_EFFECTS))
     }
@@ -239,13 +312,21 @@ impl<'s> Comparator<'s> {
         Ok(first.expect("a side"))
     }
 
-    /// The same for List effects.
-    fn list(&mut self, file: &[u8], room: usize) -> Result<(Listing, Vec<u64>), Difference> {
+    /// The same for List effects, which is lent a list of places that count as yes, or none.
+    fn list(
+        &mut self,
+        file: &[u8],
+        yes: Option<&[u32]>,
+        room: usize,
+    ) -> Result<(Listing, Vec<u64>), Difference> {
         let mut first: Option<(Listing, Vec<u64>)> = None;
         for &side in self.sides {
             let filler = self.entries.part(self.tally.checks, room);
             let mut entries = filler.to_vec();
-            let listing = side.list_effects(file, &mut entries);
+            let listing = match yes {
+                Some(yes) => side.list_effects_given(file, yes, &mut entries),
+                None => side.list_effects(file, &mut entries),
+            };
             let name = side.name();
             let count = listing.count;
             let untouched = count <= room && entries[count..] == filler[count..];
@@ -283,6 +364,16 @@ impl<'s> Comparator<'s> {
     /// Counts a check made outside.
     pub fn hold(&mut self, held: bool, seen: impl FnOnce() -> String) -> Result<(), Difference> {
         self.check(held, seen)
+    }
+
+    /// The oracle, if there is one, is asked about many trees at once.
+    fn wait_for_oracle(&mut self, file: &[u8], answer: Vec<u8>) -> Result<(), Difference> {
+        if self.oracle.is_none() {
+            return Ok(());
+        }
+        self.waiting.0.push(file.to_vec());
+        self.waiting.1.push(answer);
+        if self.waiting.0.len() == BATCH { self.ask_oracle() } else { Ok(()) }
     }
 
     /// Asks the oracle about the trees that wait.

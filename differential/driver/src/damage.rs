@@ -3,6 +3,7 @@
 use port::{Limits, element, kind, sub};
 
 use crate::file;
+use crate::logicals;
 use crate::random::Random;
 use crate::trees;
 
@@ -56,7 +57,8 @@ fn too_many(random: &mut Random) -> Damaged {
 impl Damaged {
     fn of(file: Vec<u8>) -> Damaged {
         let (output_room, entry_room) = (file::output_room(&file), 2 * file::count(&file));
-        Damaged { file, output_room, entry_room, reduce: 0, list: 0, faults: 0, touched: None }
+        let reduce = if logicals::has_logicals(&file) { 6 } else { 0 };
+        Damaged { file, output_room, entry_room, reduce, list: 0, faults: 0, touched: None }
     }
 
     /// A file that is refused for what it is.
@@ -90,7 +92,7 @@ impl Damaged {
             3 => self.settings(random),
             4 => self.count_or_length(random),
             5 => self.bad_record(random),
-            6 => self.left_out_kind(random),
+            6 => return self.left_out_kind(random),
             7 => self.shape(random),
             // The file was made too deep to begin with.
             8 => false,
@@ -166,22 +168,35 @@ impl Damaged {
             1 => r[1] = bad_facts(random, r[0], r[1]),
             2 => r[2] = bad_sub(random, r[0]),
             3 => r[3] = number,
-            // Kinds 20 to 22 are refused with 6 only if all else is good.
+            // Kinds 20 to 22 are refused with 6 or taken only if all else is good.
             _ => {
                 r[0] = random.between(20, 22) as u8;
-                (r[1], r[2]) = random.pick(&[(32, 0), (0, 1), (6, 0), (16, 0)]);
+                (r[1], r[2]) = random.pick(&[(32, 0), (0, 3), (6, 0), (16, 0)]);
             }
         })
     }
 
-    /// "6 kinds 20–22."
-    fn left_out_kind(&mut self, random: &mut Random) -> bool {
-        let Some(i) = self.find(random, |_| true) else { return false };
-        self.edit(i, |r| {
-            r[0] = random.between(20, 22) as u8;
-            r[1] &= 31;
-            r[2] = 0;
-        })
+    /// "6 kinds 20–22", of which "kind 20, with sub 1 or 2 and two expressions, is read by the effect
+    /// listing" (02, N1): a binary made a logical is listed, and a leaf made one has no children.
+    fn left_out_kind(&mut self, random: &mut Random) {
+        let way = random.below(4);
+        let operator = random.pick(&[sub::AND, sub::OR]);
+        let kind_of = |i: usize| file::record(&self.file, i)[0];
+        let found = self.find(random, |i| match way {
+            2 => kind_of(i) == kind::BINARY,
+            3 => kind_of(i) <= kind::THIS,
+            _ => true,
+        });
+        let Some(i) = found else { return };
+        let (kind, sub, list) = match way {
+            0 => (kind::ASSIGNMENT, 0, 6),
+            1 => (kind::LOGICAL, 0, 6),
+            2 => (kind::LOGICAL, operator, 0),
+            _ => (kind::LOGICAL, operator, 7),
+        };
+        self.edit(i, |r| [r[0], r[1], r[2]] = [kind, r[1] & 31, sub]);
+        self.faults += 1;
+        self.refuse(6, list);
     }
 
     /// "7 child counts, subtree sizes (the root's is N), or a kind where it may not stand."
@@ -199,13 +214,13 @@ impl Damaged {
         })
     }
 
-    /// Another kind with as many children, where it may not stand.
+    /// Another kind with as many children, where it may not stand or may not have so many.
     fn misplaced_kind(&mut self, random: &mut Random) -> bool {
         let relations = file::parents_and_depths(&self.file);
         let kind_of = |i: usize| file::record(&self.file, i)[0];
         let under = |i: usize| relations[i].0.map_or(0, kind_of);
         let children = |i: usize| file::record(&self.file, i)[4];
-        let way = random.below(6);
+        let way = random.below(8);
         let found = self.find(random, |i| match way {
             0 => kind_of(i) <= kind::THIS && under(i) != kind::ARRAY,
             1 => kind_of(i) <= kind::THIS && under(i) != kind::CLASS,
@@ -215,7 +230,9 @@ impl Damaged {
                 kind_of(i) == kind::UNARY && !may_spread.contains(&under(i))
             }
             4 => kind_of(i) == kind::ELEMENT && children(i) == 0,
-            _ => kind_of(i) == kind::PROPERTY && children(i) == 1,
+            5 => kind_of(i) == kind::PROPERTY && children(i) == 1,
+            6 => kind_of(i) == kind::BINARY,
+            _ => kind_of(i) == kind::CONDITIONAL,
         });
         let Some(i) = found else { return false };
         let (kind, sub) = match way {
@@ -224,7 +241,9 @@ impl Damaged {
             2 => (kind::PROPERTY, 0),
             3 => (kind::SPREAD, 0),
             4 => (kind::IDENTIFIER, 0),
-            _ => (kind::UNARY, sub::VOID),
+            5 => (kind::UNARY, sub::VOID),
+            6 => (kind::CONDITIONAL, 0),
+            _ => (kind::BINARY, sub::COMPARISON),
         };
         self.edit(i, |r| r[..3].copy_from_slice(&[kind, 0, sub]))
     }
@@ -254,6 +273,7 @@ fn bad_sub(random: &mut Random, kind: u8) -> u8 {
         kind::UNARY => random.pick(&[0, 5, 8, 255]),
         kind::BINARY => random.pick(&[0, 4, 8, 255]),
         kind::CLASS => random.between(4, 255) as u8,
+        kind::LOGICAL => random.between(3, 255) as u8,
         kind::ELEMENT => random.pick(&[
             0,
             6,

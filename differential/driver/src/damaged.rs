@@ -11,7 +11,7 @@ use std::io::{self, Write};
 use port::Limits;
 
 use crate::damage::{self, Damaged};
-use crate::run;
+use crate::run::{self, Drawn};
 
 /// Stands where no record was damaged.
 const NONE: u16 = 65_535;
@@ -19,8 +19,8 @@ const NONE: u16 = 65_535;
 /// So many files of this seed, less those whose length does not go into two bytes.
 pub fn write(out: &mut impl Write, files: u64, seed: u64) -> io::Result<()> {
     for i in 0..files {
-        let (tree, mut random) = run::tree(seed, i);
-        let case = damage::damaged(&mut random, &tree);
+        let Drawn { file, mut random, .. } = run::tree(seed, i);
+        let case = damage::damaged(&mut random, &file);
         if let Ok(length) = u16::try_from(case.file.len()) {
             let number = port::check(&case.file, Limits::REDUCE).err().unwrap_or(0);
             out.write_all(&length.to_le_bytes())?;

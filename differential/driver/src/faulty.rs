@@ -22,6 +22,7 @@ enum Operation {
     Check,
     Reduce,
     ListEffects,
+    ListEffectsGiven,
     Derived,
 }
 
@@ -29,6 +30,8 @@ enum Operation {
 enum Lent {
     First,
     Second,
+    /// The places that count as yes, which only `ListEffectsGiven` is lent.
+    Yes,
 }
 
 #[derive(Clone, Copy, Debug, PartialEq, Eq)]
@@ -40,15 +43,22 @@ enum Touch {
 
 const TOUCHES: [Touch; 3] = [Touch::ReadBefore, Touch::ReadBehind, Touch::WriteLast];
 
+/// Those that are lent two things or more.
+const OPERATIONS: [Operation; 4] =
+    [Operation::Reduce, Operation::ListEffects, Operation::ListEffectsGiven, Operation::Derived];
+
 /// Every fault, each under its number. The check is lent the file alone.
 pub fn faults() -> Vec<Faulty> {
     let mut faults = Vec::new();
-    for operation in [Operation::Reduce, Operation::ListEffects, Operation::Derived] {
+    for operation in OPERATIONS {
         for lent in [Lent::First, Lent::Second] {
             faults.extend(TOUCHES.map(|touch| Faulty(operation, lent, touch)));
         }
     }
-    faults.extend(TOUCHES.map(|touch| Faulty(Operation::Check, Lent::First, touch)));
+    let given = Operation::ListEffectsGiven;
+    for (operation, lent) in [(Operation::Check, Lent::First), (given, Lent::Yes)] {
+        faults.extend(TOUCHES.map(|touch| Faulty(operation, lent, touch)));
+    }
     faults
 }
 
@@ -78,11 +88,12 @@ impl Faulty {
         operation != Operation::Derived && lent == Lent::Second && touch == Touch::WriteLast
     }
 
-    fn touch<T>(&self, operation: Operation, first: &[u8], second: &[T]) {
+    fn touch<T>(&self, operation: Operation, first: &[u8], second: &[T], yes: &[u32]) {
         if self.0 == operation {
             match self.1 {
                 Lent::First => self.2.touch(first),
                 Lent::Second => self.2.touch(second),
+                Lent::Yes => self.2.touch(yes),
             }
         }
     }
@@ -104,22 +115,27 @@ impl Side for Faulty {
     }
 
     fn reduce(&self, file: &[u8], out: &mut [u8]) -> Reduction {
-        self.touch(Operation::Reduce, file, out);
+        self.touch(Operation::Reduce, file, out, &[]);
         Port.reduce(file, out)
     }
 
     fn list_effects(&self, file: &[u8], entries: &mut [u64]) -> Listing {
-        self.touch(Operation::ListEffects, file, entries);
+        self.touch(Operation::ListEffects, file, entries, &[]);
         Port.list_effects(file, entries)
     }
 
+    fn list_effects_given(&self, file: &[u8], yes: &[u32], entries: &mut [u64]) -> Listing {
+        self.touch(Operation::ListEffectsGiven, file, entries, yes);
+        Port.list_effects_given(file, yes, entries)
+    }
+
     fn derived(&self, scopes: &[u8], ancestors: &[u8]) -> Answer {
-        self.touch(Operation::Derived, scopes, ancestors);
+        self.touch(Operation::Derived, scopes, ancestors, &[]);
         Port.derived(scopes, ancestors)
     }
 
     fn check(&self, file: &[u8], limits: Limits) -> Option<u8> {
-        self.touch::<u8>(Operation::Check, file, &[]);
+        self.touch::<u8>(Operation::Check, file, &[], &[]);
         Port.check(file, limits)
     }
 }

@@ -4,7 +4,8 @@
 //! bytes, the file, the length of the oracle's answer in 4 bytes (0: removable) and the answer.
 //! Numbers are little-endian.
 
-use crate::hits::{self, HITS, Hits};
+use crate::conditional_rows;
+use crate::hits::{self, HITS, Hit, Hits};
 use crate::oracle::Oracle;
 use crate::random::Random;
 use crate::rows;
@@ -28,29 +29,33 @@ pub struct Case {
 }
 
 /// Rows A to L, the corners, then seeded trees until every handler's every outcome is met often
-/// enough.
+/// enough; behind these, so that they stay as they are, the rows of conditionals and seeded trees
+/// with conditionals.
 pub fn make(oracle: &mut Oracle, seed: u64) -> io::Result<Vec<Case>> {
     let mut files: Vec<Vec<u8>> = rows::rows().iter().map(|(_, tree, _)| tree.file()).collect();
     files.extend(rows::corners().iter().map(|(_, tree, _)| tree.file()));
-    files.extend(sample(seed));
+    files.extend(sample(seed, trees::WITHOUT_CONDITIONALS, &HITS[hits::OF_01]));
+    files.extend(conditional_rows::rows().iter().map(|(_, tree, _)| tree.file()));
+    files.extend(sample(seed, trees::COMPOUNDS, &HITS[hits::OF_CONDITIONALS]));
     let answers = oracle.reduce(&files)?;
     Ok(files.into_iter().zip(answers).map(|(file, answer)| Case { file, answer }).collect())
 }
 
-fn sample(seed: u64) -> Vec<Vec<u8>> {
+/// Trees of these compounds until each of these outcomes is met.
+fn sample(seed: u64, compounds: &'static [u8], outcomes: &[(Hit, &str)]) -> Vec<Vec<u8>> {
     let mut random = Random::new(seed);
     let mut met = Hits::default();
     let mut files = Vec::new();
-    while met.under(CASES_EACH).next().is_some() {
+    while outcomes.iter().any(|&(hit, _)| met.count(hit) < CASES_EACH) {
         let room = random.between(1, ROOM);
-        let mut file = trees::small_file(&mut random, room);
+        let mut file = trees::small_file(&mut random, compounds, room);
         if random.chance(128) {
-            trees::make_premise_true(&mut file);
+            trees::make_premise_true(&mut file, &[vec![]]);
         }
         let tree = port::check(&file, Limits::REDUCE).expect("an accepted file");
         let hits = hits::of_tree(tree, &port::outcomes(tree));
         let wanted = |&(hit, _): &_| hits.count(hit) > 0 && met.count(hit) < CASES_EACH;
-        if HITS.iter().any(wanted) {
+        if outcomes.iter().any(wanted) {
             met.add(&hits);
             files.push(file);
         }

@@ -86,6 +86,17 @@ impl Side for AtEdge<'_> {
         listing
     }
 
+    fn list_effects_given(&self, file: &[u8], yes: &[u32], entries: &mut [u64]) -> Listing {
+        let file = Sealed::new(file, self.edge);
+        let yes = Sealed::new(yes, self.edge);
+        let mut lent = Guarded::new(entries, self.edge);
+        let listing = self.side.list_effects_given(file.items(), yes.items(), lent.items_mut());
+        entries.copy_from_slice(lent.items());
+        let bytes = file.items().len() + size_of_val(yes.items()) + size_of_val(entries);
+        self.count(bytes, listing.number);
+        listing
+    }
+
     fn derived(&self, scopes: &[u8], ancestors: &[u8]) -> Answer {
         let [scopes, ancestors] = [scopes, ancestors].map(|list| Sealed::new(list, self.edge));
         let answer = self.side.derived(scopes.items(), ancestors.items());

@@ -1,5 +1,7 @@
 //! How often each handler came to each of its outcomes.
 
+use std::ops::Range;
+
 use port::{Marks, Outcome, Tree, element, kind, sub};
 
 /// The fewest hits of each outcome in a run that passes.
@@ -119,7 +121,42 @@ hits! {
     ClassKeyExtracted "class: a computed key extracted"
     ClassValueExtracted "class: a static value extracted"
     ClassValueLeft "class: a value that is not static goes"
+    ConditionalUnflagged "conditional: removed, unflagged"
+    ConditionalRemoved "conditional: removed, nothing left"
+    ConditionalTest "conditional: its test left"
+    ConditionalOr "conditional: or, the consequent goes"
+    ConditionalAnd "conditional: and, the alternate goes"
+    ConditionalStays "conditional: stays"
+    ConditionalTestJoined "conditional: joined with a test that reducing would change"
+    ConditionalTestStays "conditional: stays with a test that reducing would change"
+    ConditionalArmReduced "conditional: stays with an arm that reducing changes"
+    ConditionalJoinedUnflagged "conditional: an unflagged test and an unflagged arm are joined"
+    ConditionalAsTest "conditional: stands as a test"
+    ConditionalAsArm "conditional: stands as an arm"
+    ConditionalAsCallee "conditional: stands as a callee"
+    ConditionalAsArgument "conditional: stands as an argument"
+    ConditionalAsHeritage "conditional: stands as a heritage"
+    ConditionalAsObjectKey "conditional: stands as the key of a property"
+    ConditionalAsValue "conditional: stands as the value of a property"
+    ConditionalAsClassKey "conditional: stands as a computed key of a class"
+    ConditionalAsStaticValue "conditional: stands as a static value"
+    ConditionalAsSpread "conditional: is spread"
+    ConditionalAsTemplateChild "conditional: stands in a template"
+    ConditionalAsLeft "conditional: stands left in an addition"
+    ConditionalAsRight "conditional: stands right in an addition"
+    ListedConsequent "listing: a conditional's consequent runs"
+    ListedAlternate "listing: a conditional's alternate runs"
+    ListedAndRight "listing: the right side of an and runs"
+    ListedAndLeft "listing: the left side of an and runs alone"
+    ListedOrRight "listing: the right side of an or runs"
+    ListedOrLeft "listing: the left side of an or runs alone"
 }
+
+/// The outcomes of document 01's handlers.
+pub const OF_01: Range<usize> = 0..Hit::ConditionalUnflagged as usize;
+/// Those of the conditional handler, and where a conditional stands.
+pub const OF_CONDITIONALS: Range<usize> =
+    Hit::ConditionalUnflagged as usize..Hit::ListedConsequent as usize;
 
 /// How often each outcome was met.
 pub struct Hits(Vec<u64>);
@@ -144,7 +181,7 @@ impl Hits {
         HITS.iter().map(|&(hit, words)| (words, self.count(hit))).filter(move |&(_, n)| n < least)
     }
 
-    fn hit(&mut self, hit: Hit) {
+    pub fn hit(&mut self, hit: Hit) {
         self.0[hit as usize] += 1;
     }
 
@@ -173,6 +210,7 @@ pub fn reached(tree: Tree, marks: &Marks) -> usize {
 fn counted<'a>(tree: Tree<'a>, marks: &'a Marks) -> Counter<'a> {
     let mut counter = Counter { tree, marks, hits: Hits::default(), reached: 0 };
     counter.expression(0);
+    (0..tree.records.len()).for_each(|i| counter.conditionals_under(i));
     counter
 }
 
@@ -211,6 +249,7 @@ impl Counter<'_> {
             kind::BINARY => self.binary(i),
             kind::CALL => self.call(i),
             kind::NEW => self.new_expression(i),
+            kind::CONDITIONAL => self.conditional(i),
             _ => self.class(i),
         }
     }
@@ -478,5 +517,71 @@ impl Counter<'_> {
         if let (Some((_, only)), None) = (met.next(), met.next()) {
             self.hits.hit(only);
         }
+    }
+
+    fn conditional(&mut self, i: usize) {
+        let (tree, marks) = (self.tree, self.marks);
+        if !tree.flagged(i) {
+            return self.hits.hit(Hit::ConditionalUnflagged);
+        }
+        let [test, consequent, alternate] = tree.test_and_arms(i);
+        let outcome = marks.outcome(i);
+        self.hits.hit(match outcome {
+            Outcome::Removed => Hit::ConditionalRemoved,
+            Outcome::One => Hit::ConditionalTest,
+            Outcome::Stays => Hit::ConditionalStays,
+            _ if marks.is_kept(consequent) => Hit::ConditionalAnd,
+            _ => Hit::ConditionalOr,
+        });
+        let changes = |node: usize| marks.outcome(node) != Outcome::Whole;
+        let arm = if marks.is_kept(consequent) { consequent } else { alternate };
+        match outcome {
+            Outcome::Stays => {
+                self.hits.hit_if(changes(test), Hit::ConditionalTestStays);
+                let arms = changes(consequent) || changes(alternate);
+                self.hits.hit_if(arms, Hit::ConditionalArmReduced);
+            }
+            Outcome::Logical => {
+                self.hits.hit_if(changes(test), Hit::ConditionalTestJoined);
+                let flagged = tree.flagged(test) || tree.flagged(arm) || changes(arm);
+                self.hits.hit_if(!flagged, Hit::ConditionalJoinedUnflagged);
+            }
+            _ => self.expression(test),
+        }
+        self.expression(consequent);
+        self.expression(alternate);
+    }
+
+    /// Where conditionals stand under a node, whether the reduction comes there or not.
+    fn conditionals_under(&mut self, i: usize) {
+        let tree = self.tree;
+        for (at, child) in tree.children(i).enumerate() {
+            if tree.kind(child) == kind::CONDITIONAL {
+                let stands = self.stands(i, at, child);
+                stands.into_iter().for_each(|hit| self.hits.hit(hit));
+            }
+        }
+    }
+
+    fn stands(&self, i: usize, at: usize, child: usize) -> Option<Hit> {
+        let tree = self.tree;
+        Some(match (tree.kind(i), at) {
+            (kind::CONDITIONAL, 0) => Hit::ConditionalAsTest,
+            (kind::CONDITIONAL, _) => Hit::ConditionalAsArm,
+            (kind::CALL | kind::NEW, 0) => Hit::ConditionalAsCallee,
+            (kind::CALL | kind::NEW, _) => Hit::ConditionalAsArgument,
+            (kind::CLASS, _) => Hit::ConditionalAsHeritage,
+            (kind::PROPERTY, 0) if tree.sub(i) == sub::KEY_AND_VALUE => Hit::ConditionalAsObjectKey,
+            (kind::PROPERTY, _) => Hit::ConditionalAsValue,
+            (kind::ELEMENT, _) if tree.computed_key(i) == Some(child) => Hit::ConditionalAsClassKey,
+            (kind::ELEMENT, _) if tree.static_value(i) == Some(child) => {
+                Hit::ConditionalAsStaticValue
+            }
+            (kind::SPREAD, _) => Hit::ConditionalAsSpread,
+            (kind::TEMPLATE, _) => Hit::ConditionalAsTemplateChild,
+            (kind::BINARY, 0) if tree.is_addition(i) => Hit::ConditionalAsLeft,
+            (kind::BINARY, _) if tree.is_addition(i) => Hit::ConditionalAsRight,
+            _ => return None,
+        })
     }
 }

@@ -4,6 +4,8 @@
 
 pub mod bench;
 pub mod compare;
+pub mod conditional_rows;
+pub mod conditionals;
 pub mod damage;
 pub mod damaged;
 pub mod derived;
@@ -18,7 +20,9 @@ pub mod hits;
 pub mod hostile;
 #[cfg(feature = "library")]
 pub mod library;
+pub mod listing_hits;
 pub mod listings;
+pub mod logicals;
 pub mod oracle;
 pub mod process;
 pub mod programs;
@@ -32,3 +36,4 @@ pub mod speed;
 pub mod trees;
 #[cfg(feature = "library")]
 pub mod under_damage;
+pub mod yes;

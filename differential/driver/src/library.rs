@@ -1,5 +1,6 @@
 //! The proved library as a side, called through its C functions.
 
+use library::Packed;
 use port::Limits;
 
 use crate::side::{Answer, Listing, Reduction, Side};
@@ -17,8 +18,11 @@ impl Side for Library {
     }
 
     fn list_effects(&self, file: &[u8], entries: &mut [u64]) -> Listing {
-        let listed = library::list_effects(file, entries);
-        Listing { number: byte(listed.number()), count: listed.value() as usize }
+        listing(library::list_effects(file, entries))
+    }
+
+    fn list_effects_given(&self, file: &[u8], yes: &[u32], entries: &mut [u64]) -> Listing {
+        listing(library::list_effects_given(file, yes, entries))
     }
 
     fn derived(&self, scopes: &[u8], ancestors: &[u8]) -> Answer {
@@ -40,6 +44,10 @@ impl Side for Library {
             number => Some(number),
         }
     }
+}
+
+fn listing(listed: Packed) -> Listing {
+    Listing { number: byte(listed.number()), count: listed.value() as usize }
 }
 
 /// A refusal's number.

@@ -2,6 +2,7 @@
 
 use driver::bench;
 use driver::compare::{Comparator, Tally};
+use driver::conditionals::{self, Extent};
 use driver::damaged;
 use driver::fixed;
 use driver::hits::HITS;
@@ -27,6 +28,10 @@ const HELP: &str = "\
 driver brief                              rows, edges, fixed list, seeded trees, Derived: seconds
 driver run [--trees N] [--seed S] [--oracle PATH] [--hits]
                                           the same with more trees, and against the oracle
+driver conditionals [--trees N] [--seed S] [--oracle PATH]
+                                          every list of places that count as yes, over up to five
+                                          places: all trees of up to four records over a thin set of
+                                          facts, and so many seeded ones
 driver replay FILE                        the fixed list in FILE
 driver fixed --oracle PATH [--seed S] FILE
                                           makes the fixed list
@@ -68,6 +73,7 @@ fn main() -> ExitCode {
     let result = arguments(words).and_then(|arguments| match command.as_str() {
         "brief" => run(&Arguments { trees: BRIEF_TREES, seed: 1, ..arguments }),
         "run" => run(&arguments),
+        "conditionals" => run_conditionals(&arguments),
         "replay" => replay(&arguments),
         "fixed" => make_fixed_list(&arguments),
         "listings" => Ok(listings::text(&Port, &input()?)),
@@ -137,15 +143,40 @@ fn run(arguments: &Arguments) -> Result<String, String> {
         run::left_out_kinds(&mut comparator, oracle)?;
     }
     run::rows(&mut comparator)?;
+    run::conditional_rows(&mut comparator)?;
     run::edges(&mut comparator)?;
     let list = fixed::decode(fixed::LIST).ok_or("the fixed list cannot be read")?;
     run::fixed_list(&mut comparator, &list)?;
     run::cases(&mut comparator, arguments.seed, arguments.trees)?;
     let questions = run::derived_questions(&mut comparator, arguments.seed)?;
+    let small = conditionals::go(&mut comparator, Extent::BRIEF, arguments.seed)?;
     let tally = comparator.finish()?;
     report(&tally, arguments, list.len(), questions);
+    println!("  {}", every_list(small));
     run::met_enough(&tally)?;
     Ok(passed(&tally))
+}
+
+/// Small trees under every list.
+fn run_conditionals(arguments: &Arguments) -> Result<String, String> {
+    let mut comparator = Comparator::new(SIDES, start_oracle(arguments)?);
+    run::conditional_rows(&mut comparator)?;
+    let extent = Extent { settings: conditionals::ALL_SETTINGS, seeded: arguments.trees };
+    let small = conditionals::go(&mut comparator, extent, arguments.seed)?;
+    let tally = comparator.finish()?;
+    println!("seed {}: {}", arguments.seed, every_list(small));
+    let (holds, fails) = (tally.premise_true_given, tally.premise_false_given);
+    println!("  of the lists of trees that Reduce takes, {holds} premise-true, {fails} not");
+    report_sides(&tally);
+    if arguments.oracle.is_some() {
+        println!("  oracle: {} trees, 0 different", tally.oracle_trees);
+    }
+    Ok(passed(&tally))
+}
+
+fn every_list(small: conditionals::Tally) -> String {
+    let conditionals::Tally { reduced, listed, lists } = small;
+    format!("{reduced} small trees and {listed} with logicals, under {lists} lists, all of each")
 }
 
 fn passed(tally: &Tally) -> String {
@@ -159,6 +190,9 @@ fn report(tally: &Tally, arguments: &Arguments, listed: usize, questions: u64) {
     );
     println!("  {} removable, {} kept", tally.removable, tally.kept);
     println!("  {} premise-true, {} not", tally.premise_true, tally.premise_false);
+    let (holds, fails) = (tally.premise_true_given, tally.premise_false_given);
+    println!("  under lists of places that count as yes, {holds} premise-true, {fails} not");
+    println!("  {} files with logicals, for List effects", tally.listed);
     match arguments.oracle {
         Some(_) => println!(
             "  oracle: {} trees and {questions} Derived questions, 0 different",
@@ -166,11 +200,7 @@ fn report(tally: &Tally, arguments: &Arguments, listed: usize, questions: u64) {
         ),
         None => println!("  {questions} Derived questions, no oracle"),
     }
-    for side in &SIDES[1..] {
-        println!("  held to the port: {}", side.name());
-        println!("    {} reductions, {} bytes, 0 different", tally.reductions, tally.bytes);
-        println!("    {} lists, {} entries, 0 different", tally.lists, tally.entries);
-    }
+    report_sides(tally);
     let (reduce, list) = (tally.refused_reductions, tally.refused_lists);
     println!("  of the damaged files, {reduce} refused by Reduce, {list} by List effects");
     let refused: u64 = tally.refused[1..].iter().sum();
@@ -184,6 +214,14 @@ fn report(tally: &Tally, arguments: &Arguments, listed: usize, questions: u64) {
         for &(hit, words) in HITS {
             println!("  {:>10} {words}", tally.hits.count(hit));
         }
+    }
+}
+
+fn report_sides(tally: &Tally) {
+    for side in &SIDES[1..] {
+        println!("  held to the port: {}", side.name());
+        println!("    {} reductions, {} bytes, 0 different", tally.reductions, tally.bytes);
+        println!("    {} lists, {} entries, 0 different", tally.lists, tally.entries);
     }
 }
 

@@ -13,15 +13,15 @@ pub struct Node {
     children: Vec<Node>,
 }
 
-const FLAGGED: u8 = 1;
-const NO_SYMBOL: u8 = 2;
+pub const FLAGGED: u8 = 1;
+pub const NO_SYMBOL: u8 = 2;
 
-fn node(kind: u8, facts: u8, sub: u8, place: u32, children: &[Node]) -> Node {
+pub fn node(kind: u8, facts: u8, sub: u8, place: u32, children: &[Node]) -> Node {
     Node { kind, facts, sub, text: 0, place, children: children.to_vec() }
 }
 
 impl Node {
-    fn text(self, text: u32) -> Node {
+    pub fn text(self, text: u32) -> Node {
         Node { text, ..self }
     }
 
@@ -49,36 +49,36 @@ impl Node {
     }
 }
 
-fn identifier(text: u32, facts: u8, place: u32) -> Node {
+pub fn identifier(text: u32, facts: u8, place: u32) -> Node {
     node(kind::IDENTIFIER, facts, 0, place, &[]).text(text)
 }
 
-fn x(place: u32) -> Node {
+pub fn x(place: u32) -> Node {
     identifier(24, 0, place)
 }
 
 /// A flagged impure call of a function with this name.
-fn call(name: u32, facts: u8, place: u32) -> Node {
+pub fn call(name: u32, facts: u8, place: u32) -> Node {
     node(kind::CALL, FLAGGED | facts, 0, place, &[identifier(name, 0, place)])
 }
 
-fn f(place: u32) -> Node {
+pub fn f(place: u32) -> Node {
     call(6, 0, place)
 }
 
-fn g(place: u32) -> Node {
+pub fn g(place: u32) -> Node {
     call(7, 0, place)
 }
 
-fn spread(facts: u8, place: u32) -> Node {
+pub fn spread(facts: u8, place: u32) -> Node {
     node(kind::SPREAD, facts, 0, place, &[x(place + 3)])
 }
 
-fn sequence(facts: u8, place: u32, children: &[Node]) -> Node {
+pub fn sequence(facts: u8, place: u32, children: &[Node]) -> Node {
     node(kind::SEQUENCE, facts, 0, place, children)
 }
 
-fn number(place: u32) -> Node {
+pub fn number(place: u32) -> Node {
     node(kind::OTHER_LEAF, NO_SYMBOL, 0, place, &[]).text(1)
 }
 

@@ -3,41 +3,62 @@
 use port::Limits;
 
 use crate::compare::{Comparator, Difference, Tally};
+use crate::conditional_rows;
 use crate::damage::{self, Damaged};
 use crate::derived;
 use crate::file;
 use crate::fixed::Case;
 use crate::hits::LEAST;
+use crate::logicals;
 use crate::oracle::Oracle;
 use crate::random::Random;
 use crate::rows;
 use crate::trees;
+use crate::yes;
 
-/// The tree of number `i` under this seed: every other one is made premise-true.
-pub fn tree(seed: u64, i: u64) -> (Vec<u8>, Random) {
+/// A tree, with what else is drawn for it.
+pub struct Drawn {
+    pub file: Vec<u8>,
+    /// Lists of places that count as yes; the first is empty.
+    pub lists: Vec<Vec<u32>>,
+    /// For what is drawn next.
+    pub random: Random,
+}
+
+/// The tree of number `i` under this seed: every other one is made premise-true under all its lists.
+pub fn tree(seed: u64, i: u64) -> Drawn {
     let mut random = Random::new(seed ^ i.wrapping_mul(0xd134_2543_de82_ef95));
     let mut file = trees::file(&mut random);
+    let mut lists = vec![vec![]];
+    lists.extend(yes::lists(&mut random, &file));
     if i.is_multiple_of(2) {
-        trees::make_premise_true(&mut file);
+        trees::make_premise_true(&mut file, &lists);
     }
-    (file, random)
+    Drawn { file, lists, random }
 }
 
 /// What every file that Reduce takes has room in; now and then as much is lent.
 const MOST_OUT: usize = file::HEADER + file::RECORD * (2 * Limits::REDUCE.records - 1);
 
-/// Holds the sides to each other on the tree of number `i` and on a damaged copy.
+/// Holds the sides to each other on the tree of number `i`, on a copy with logicals where it has
+/// binaries, and on a damaged copy of one of the two.
 pub fn case(comparator: &mut Comparator, seed: u64, i: u64) -> Result<(), Difference> {
-    let (file, mut random) = tree(seed, i);
-    let named = |difference: Difference| {
-        format!("seed {seed}, tree {i}:\n{}{difference}", file::show(&file))
+    let Drawn { file, lists, mut random } = tree(seed, i);
+    let named = |file: &[u8], difference: Difference| {
+        format!("seed {seed}, tree {i}:\n{}{difference}", file::show(file))
     };
     let little = random.pick(&[0, 0, 1, 7, 40]);
     let more_room = if i % 256 == 255 { MOST_OUT - file::output_room(&file) } else { little };
-    comparator.accepted(&file, more_room).map_err(named)?;
-    let damaged = damage::damaged(&mut random, &file);
+    comparator.accepted(&file, more_room, &lists).map_err(|seen| named(&file, seen))?;
+    let logicals = logicals::with_logicals(&mut random, &file);
+    let lists = yes::lists(&mut random, &logicals);
+    if logicals::has_logicals(&logicals) {
+        comparator.listed(&logicals, &lists).map_err(|seen| named(&logicals, seen))?;
+    }
+    let whole = if random.chance(64) { &logicals } else { &file };
+    let damaged = damage::damaged(&mut random, whole);
     comparator
-        .refused(&damaged)
+        .refused(&damaged, &lists[0])
         .map_err(|difference| format!("seed {seed}, damaged copy {i}: {difference}"))
 }
 
@@ -57,8 +78,30 @@ pub fn rows(comparator: &mut Comparator) -> Result<(), Difference> {
     }
     let (tree, answer, effects) = rows::example();
     comparator.answers(&tree.file(), &answer.file())?;
-    comparator.effects(&tree.file(), &effects)?;
-    comparator.effects(&answer.file(), &effects)
+    comparator.effects(&tree.file(), &[], &effects)?;
+    comparator.effects(&answer.file(), &[], &effects)
+}
+
+/// Rows of document 02, N1: what is left of conditionals, and what is listed under which list.
+pub fn conditional_rows(comparator: &mut Comparator) -> Result<(), Difference> {
+    for (row, tree, answer) in conditional_rows::rows() {
+        let (file, expected) = (tree.file(), answer.map_or_else(Vec::new, |answer| answer.file()));
+        let named = |seen: Difference| format!("{row}: {seen}");
+        comparator.answers(&file, &expected).map_err(named)?;
+        comparator.accepted(&file, 0, &yes::subsets(&yes::places(&file, 5))).map_err(named)?;
+    }
+    for (row, tree, yes, effects) in conditional_rows::effects() {
+        let held = comparator.effects(&tree.file(), &yes, &effects);
+        held.map_err(|seen| format!("{row}: {seen}"))?;
+    }
+    for (row, tree, reduce, list) in conditional_rows::refused() {
+        let held = comparator.refused(&Damaged::whole(tree.file(), reduce, list), &[1]);
+        held.map_err(|seen| format!("{row}: {seen}"))?;
+    }
+    let mut random = Random::new(1);
+    let file = trees::conditional_file(&mut random, 200);
+    let many = [(); 2].map(|()| yes::many(&mut random, &file));
+    comparator.accepted(&file, 0, &many)
 }
 
 /// The oracle's answers, as listed.
@@ -75,20 +118,24 @@ pub fn edges(comparator: &mut Comparator) -> Result<(), Difference> {
     let mut random = Random::new(1);
     for records in [1, 2, Limits::REDUCE.records] {
         let file = trees::wide_file(&mut random, records);
-        comparator.accepted(&file, 0)?;
+        comparator.accepted(&file, 0, &[vec![0]])?;
         let (output_room, entry_room) = (file::output_room(&file), 2 * records);
-        comparator.refused(&Damaged::short(file.clone(), output_room - 1, entry_room, 9, 0))?;
-        comparator.refused(&Damaged::short(file, output_room, entry_room - 1, 0, 10))?;
+        let short = Damaged::short(file.clone(), output_room - 1, entry_room, 9, 0);
+        comparator.refused(&short, &[])?;
+        let short = Damaged::short(file, output_room, entry_room - 1, 0, 10);
+        comparator.refused(&short, &[])?;
     }
     let deepest = trees::deep_file(&mut random, Limits::REDUCE.depth);
-    comparator.accepted(&deepest, 0)?;
+    let lists = yes::lists(&mut random, &deepest);
+    comparator.accepted(&deepest, 0, &lists)?;
     for (records, list) in [(2_001, 0), (3_999, 0), (4_000, 4)] {
         let file = trees::wide_file(&mut random, records);
-        comparator.refused(&Damaged::whole(file, 4, list))?;
+        comparator.refused(&Damaged::whole(file, 4, list), &[])?;
     }
     for (depth, list) in [(65, 0), (66, 8)] {
         let file = trees::deep_file(&mut random, depth);
-        comparator.refused(&Damaged::whole(file, 8, list))?;
+        let yes = yes::list(&mut random, &file);
+        comparator.refused(&Damaged::whole(file, 8, list), &yes)?;
     }
     Ok(())
 }
@@ -105,7 +152,7 @@ pub fn derived_questions(comparator: &mut Comparator, seed: u64) -> Result<u64, 
 /// What only left-out handlers call is unreachable: an oracle that comes to such a kind must fail,
 /// and name its handler.
 pub fn left_out_kinds(comparator: &mut Comparator, oracle: &str) -> Result<(), Difference> {
-    for (kind, handler) in [(20, "logical"), (21, "conditional"), (22, "assignment")] {
+    for (kind, handler) in [(20, "logical"), (22, "assignment")] {
         let mut file = trees::deep_file(&mut Random::new(1), 1);
         file::record_mut(&mut file, 0)[..3].copy_from_slice(&[kind, 1, 0]);
         let said = Oracle::failure(oracle, &file).map_err(|error| error.to_string())?;
@@ -129,6 +176,9 @@ pub fn met_enough(tally: &Tally) -> Result<(), Difference> {
     let others = [
         ("premise true", tally.premise_true),
         ("premise not true", tally.premise_false),
+        ("premise true under a list", tally.premise_true_given),
+        ("premise not true under a list", tally.premise_false_given),
+        ("files with logicals", tally.listed),
         ("removable", tally.removable),
         ("kept", tally.kept),
     ];

@@ -34,6 +34,9 @@ pub trait Side {
 
     fn list_effects(&self, file: &[u8], entries: &mut [u64]) -> Listing;
 
+    /// The same where the places in `yes` count as yes.
+    fn list_effects_given(&self, file: &[u8], yes: &[u32], entries: &mut [u64]) -> Listing;
+
     fn derived(&self, scopes: &[u8], ancestors: &[u8]) -> Answer;
 
     /// Refusals 1 to 8 (0: accepted), if the side offers the check by itself.
@@ -56,10 +59,11 @@ impl Side for Port {
     }
 
     fn list_effects(&self, file: &[u8], entries: &mut [u64]) -> Listing {
-        match port::list_effects(file, entries) {
-            Listed::Refused(number) => Listing { number, count: 0 },
-            Listed::Count(count) => Listing { number: 0, count },
-        }
+        listing(port::list_effects(file, entries))
+    }
+
+    fn list_effects_given(&self, file: &[u8], yes: &[u32], entries: &mut [u64]) -> Listing {
+        listing(port::list_effects_given(file, yes, entries))
     }
 
     fn derived(&self, scopes: &[u8], ancestors: &[u8]) -> Answer {
@@ -72,5 +76,12 @@ impl Side for Port {
 
     fn check(&self, file: &[u8], limits: Limits) -> Option<u8> {
         Some(port::check(file, limits).err().unwrap_or(0))
+    }
+}
+
+fn listing(listed: Listed) -> Listing {
+    match listed {
+        Listed::Refused(number) => Listing { number, count: 0 },
+        Listed::Count(count) => Listing { number: 0, count },
     }
 }

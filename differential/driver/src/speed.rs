@@ -50,6 +50,12 @@ pub fn walked_files(records: usize, seed: u64) -> Vec<Vec<u8>> {
     (0..count(records)).map(|_| trees::walked_file(&mut random, records)).collect()
 }
 
+/// The same, with conditionals among their nodes.
+pub fn choosing_files(records: usize, seed: u64) -> Vec<Vec<u8>> {
+    let mut random = Random::new(seed);
+    (0..count(records)).map(|_| trees::choosing_file(&mut random, records)).collect()
+}
+
 /// Of the records of all files, the share of expressions that Reduce comes to, and the records of
 /// the answers by those of the files.
 pub fn walked(files: &[Vec<u8>], side: &dyn Side) -> (f64, f64) {
@@ -66,7 +72,6 @@ pub fn walked(files: &[Vec<u8>], side: &dyn Side) -> (f64, f64) {
 
 /// What the check, Reduce and List effects take on the files, side by side.
 pub fn measure(sides: &[&dyn Side], files: &[Vec<u8>]) -> Vec<Measured> {
-    let mut entries = vec![0; 2 * file::count(&files[0])];
     let limits = if file::count(&files[0]) <= Limits::REDUCE.records {
         Limits::REDUCE
     } else {
@@ -74,11 +79,17 @@ pub fn measure(sides: &[&dyn Side], files: &[Vec<u8>]) -> Vec<Measured> {
     };
     let check = in_turns(sides, files, |side, file| black_box(side.check(file, limits)).is_some());
     let (reduce, _) = reduce(sides, None, files).expect("no oracle is asked");
-    let list = in_turns(sides, files, |side, file| {
-        black_box(side.list_effects(file, &mut entries)).number == 0
-    });
+    let list = list(sides, files);
     let both = check.into_iter().zip(reduce).zip(list);
     both.map(|((check, reduce), list)| Measured { check, reduce, list }).collect()
+}
+
+/// What List effects takes of each side, in turns, where no place counts as yes.
+pub fn list(sides: &[&dyn Side], files: &[Vec<u8>]) -> Vec<Option<f64>> {
+    let mut entries = vec![0; 2 * file::count(&files[0])];
+    in_turns(sides, files, |side, file| {
+        black_box(side.list_effects(file, &mut entries)).number == 0
+    })
 }
 
 /// What it takes to copy the files, and nothing else.

@@ -8,7 +8,7 @@ use crate::random::Random;
 
 /// A file that Reduce takes.
 pub fn file(random: &mut Random) -> Vec<u8> {
-    let mut grower = Grower::new(random);
+    let mut grower = Grower::new(random, COMPOUNDS);
     match grower.random.below(400) {
         0 => grower.wide(Limits::REDUCE.records),
         1..=10 => grower.deep(Limits::REDUCE.depth),
@@ -17,16 +17,29 @@ pub fn file(random: &mut Random) -> Vec<u8> {
     grower.file()
 }
 
-/// A file of at most `room` records.
-pub fn small_file(random: &mut Random, room: usize) -> Vec<u8> {
-    let mut grower = Grower::new(random);
+/// A file of at most `room` records, with these expressions besides the leaves.
+pub fn small_file(random: &mut Random, compounds: &'static [u8], room: usize) -> Vec<u8> {
+    let mut grower = Grower::new(random, compounds);
     grower.expression(room, 8);
     grower.file()
 }
 
-/// A file of exactly `records` records: a sequence.
+/// A file of at most `room` records in which conditionals stand among each other, for the most part.
+pub fn conditional_file(random: &mut Random, room: usize) -> Vec<u8> {
+    let mut grower = Grower::new(random, COMPOUNDS);
+    grower.temper.focus = kind::CONDITIONAL;
+    if room < 4 {
+        grower.expression(room, 8);
+    } else {
+        grower.conditional(room, 8);
+    }
+    grower.file()
+}
+
+/// A file of exactly `records` records: a sequence. It has no conditionals, so that figures of speed
+/// compare with those taken before there were any.
 pub fn wide_file(random: &mut Random, records: usize) -> Vec<u8> {
-    let mut grower = Grower::new(random);
+    let mut grower = Grower::new(random, WITHOUT_CONDITIONALS);
     grower.exactly(records);
     grower.file()
 }
@@ -35,7 +48,7 @@ pub fn wide_file(random: &mut Random, records: usize) -> Vec<u8> {
 /// flagged is, and most nodes that are kept or dropped with much under them are made others that have
 /// the same children.
 pub fn walked_file(random: &mut Random, records: usize) -> Vec<u8> {
-    let mut grower = Grower::new(random);
+    let mut grower = Grower::new(random, WITHOUT_CONDITIONALS);
     grower.temper.flag = 128;
     if grower.temper.focus == kind::CLASS {
         grower.temper.focus = kind::SEQUENCE;
@@ -48,6 +61,16 @@ pub fn walked_file(random: &mut Random, records: usize) -> Vec<u8> {
         file::record_mut(&mut file, i)[..3].copy_from_slice(&head);
     }
     file
+}
+
+/// A file of exactly `records` records, in which conditionals come up most and half of what can be
+/// flagged is.
+pub fn choosing_file(random: &mut Random, records: usize) -> Vec<u8> {
+    let mut grower = Grower::new(random, COMPOUNDS);
+    grower.temper.flag = 128;
+    grower.temper.focus = kind::CONDITIONAL;
+    grower.exactly(records);
+    grower.file()
 }
 
 /// Kind, facts and sub of record `i`, which stands under a node of kind `under`, so that the
@@ -79,27 +102,29 @@ const LISTED: u8 = 64;
 
 /// A file whose tree is exactly `depth` deep.
 pub fn deep_file(random: &mut Random, depth: usize) -> Vec<u8> {
-    let mut grower = Grower::new(random);
+    let mut grower = Grower::new(random, COMPOUNDS);
     grower.nest(depth);
     grower.file()
 }
 
-/// Sets flags until every clear flag that the reduction reads is true: each such node then has an
-/// empty effect list.
-pub fn make_premise_true(file: &mut [u8]) {
-    loop {
-        let tree = port::check(file, Limits::REDUCE).expect("an accepted file");
-        let mut untrue = None;
-        port::reads(tree, &port::outcomes(tree), &mut |read| {
-            if read.has_effects {
-                untrue = Some(read.node);
-            }
-        });
-        match untrue {
-            Some(node) => file[8 + 16 * node + 1] |= 1,
-            None => return,
-        }
+/// Sets flags until every clear flag that the reduction reads is true under each of the lists of
+/// places that count as yes: each such node then has an empty effect list.
+pub fn make_premise_true(file: &mut [u8], lists: &[Vec<u32>]) {
+    while let Some(node) = lists.iter().find_map(|yes| untrue(file, yes)) {
+        file::record_mut(file, node)[1] |= 1;
     }
+}
+
+/// The last node whose clear flag is read and not true.
+fn untrue(file: &[u8], yes: &[u32]) -> Option<usize> {
+    let tree = port::check(file, Limits::REDUCE).expect("an accepted file");
+    let mut untrue = None;
+    port::reads(tree, &port::outcomes(tree), yes, &mut |read| {
+        if read.has_effects {
+            untrue = Some(read.node);
+        }
+    });
+    untrue
 }
 
 /// How one tree is grown. Chances are of 256.
@@ -110,13 +135,15 @@ struct Temper {
     string: u16,
     pure: u16,
     empty_text: u16,
+    /// The expressions besides the leaves.
+    compounds: &'static [u8],
     /// A kind that comes up more often.
     focus: u8,
     places: usize,
 }
 
 impl Temper {
-    fn new(random: &mut Random) -> Temper {
+    fn new(random: &mut Random, compounds: &'static [u8]) -> Temper {
         Temper {
             settings: random.below(8) as u8,
             flag: random.pick(&[0, 32, 96, 160, 224, 256]),
@@ -124,7 +151,8 @@ impl Temper {
             string: random.pick(&[32, 128, 192]),
             pure: random.pick(&[16, 64, 128]),
             empty_text: random.pick(&[32, 128, 224]),
-            focus: random.pick(&COMPOUNDS),
+            compounds,
+            focus: random.pick(compounds),
             places: random.below(4),
         }
     }
@@ -139,8 +167,9 @@ const LEAVES: [u8; 6] = [
     kind::THIS,
 ];
 
-/// The other expressions, by how often they come up. Those that need no child stand first.
-const COMPOUNDS: [u8; 12] = [
+/// The other expressions, by how often they come up. Those that need no child stand first,
+/// conditionals last.
+pub const COMPOUNDS: &[u8] = &[
     kind::ARRAY,
     kind::OBJECT,
     kind::TEMPLATE,
@@ -153,7 +182,11 @@ const COMPOUNDS: [u8; 12] = [
     kind::CALL,
     kind::CALL,
     kind::NEW,
+    kind::CONDITIONAL,
+    kind::CONDITIONAL,
 ];
+
+pub const WITHOUT_CONDITIONALS: &[u8] = COMPOUNDS.split_at(12).0;
 
 const NEED_NO_CHILD: usize = 5;
 
@@ -164,8 +197,8 @@ struct Grower<'r> {
 }
 
 impl<'r> Grower<'r> {
-    fn new(random: &'r mut Random) -> Self {
-        let temper = Temper::new(random);
+    fn new(random: &'r mut Random, compounds: &'static [u8]) -> Self {
+        let temper = Temper::new(random, compounds);
         Grower { random, temper, records: Vec::new() }
     }
 
@@ -284,6 +317,7 @@ impl<'r> Grower<'r> {
             kind::UNARY => self.unary(room, depth),
             kind::BINARY => self.binary(room, depth),
             kind::CALL | kind::NEW => self.call_or_new(kind, room, depth),
+            kind::CONDITIONAL => self.conditional(room, depth),
             _ => self.leaf(kind, 0),
         }
     }
@@ -296,11 +330,12 @@ impl<'r> Grower<'r> {
                 _ => self.random.pick(&LEAVES),
             };
         }
-        match self.random.below(8) {
+        let kind = match self.random.below(8) {
             0 => self.random.pick(&LEAVES),
             1..=3 => self.temper.focus,
-            _ => self.random.pick(&COMPOUNDS),
-        }
+            _ => self.random.pick(self.temper.compounds),
+        };
+        if kind == kind::CONDITIONAL && room < 4 { kind::BINARY } else { kind }
     }
 
     /// At most `most` items, each of at least `least` records, in `room` records; their number.
@@ -377,10 +412,35 @@ impl<'r> Grower<'r> {
         let keyed = room >= 3 && self.random.chance(128);
         let at = self.open(kind::PROPERTY, keyed.into());
         if keyed {
-            self.expression(1, depth - 1);
+            self.key(room - 2, depth - 1);
         }
-        self.expression(room - 1 - usize::from(keyed), depth - 1);
+        let used = self.records.len() - at;
+        self.expression(room - used, depth - 1);
         self.close(at, 1 + usize::from(keyed));
+    }
+
+    /// A key in at most `room` records: a leaf, or now and then a conditional.
+    fn key(&mut self, room: usize, depth: usize) {
+        let conditionals = self.temper.compounds.contains(&kind::CONDITIONAL);
+        if conditionals && room >= 4 && depth >= 2 && self.random.chance(48) {
+            self.conditional(4, depth);
+        } else {
+            self.expression(1, depth);
+        }
+    }
+
+    /// Its parts differ in length by chance. It is taken apart only if flagged.
+    fn conditional(&mut self, room: usize, depth: usize) {
+        let at = self.open(kind::CONDITIONAL, 0);
+        for others in [2, 1, 0] {
+            let left = room - (self.records.len() - at) - others;
+            let share = if others == 0 { left } else { self.random.between(1, left) };
+            self.expression(share, depth - 1);
+        }
+        if self.random.chance(128) {
+            self.records[at][1] |= 1;
+        }
+        self.close(at, 3);
     }
 
     /// A template or sequence.
@@ -523,12 +583,14 @@ impl<'r> Grower<'r> {
         }
         let keyed = left > 0 && self.random.chance(100);
         left -= usize::from(keyed);
+        let key_room = 1 + left.saturating_sub(1);
         let valued = left > 0 && sub & element::FORM != element::METHOD && self.random.chance(200);
         sub |= if keyed { element::COMPUTED_KEY } else { 0 };
         sub |= if valued { element::VALUE } else { 0 };
         let at = self.open(kind::ELEMENT, sub);
         if keyed {
-            self.expression(1, depth - 1);
+            self.key(key_room, depth - 1);
+            left -= self.records.len() - at - 2;
         }
         if valued {
             let value = self.records.len();
@@ -561,7 +623,7 @@ impl<'r> Grower<'r> {
         if depth == 1 {
             return self.expression(1, 1);
         }
-        match self.random.below(if depth == 2 { 6 } else { 9 }) {
+        match self.random.below(if depth == 2 { 7 } else { 10 }) {
             0 => self.nest_in(kind::SEQUENCE, 0, &[Part::Other, Part::Nested], depth),
             1 => self.nest_in(kind::ARRAY, 0, &[Part::Nested, Part::Other], depth),
             2 => self.nest_in(kind::TEMPLATE, 0, &[Part::Other, Part::Nested], depth),
@@ -577,8 +639,13 @@ impl<'r> Grower<'r> {
                 self.nest_in(kind::BINARY, sub, &parts, depth);
             }
             5 => self.nest_in(kind::CALL, 0, &[Part::Other, Part::Nested], depth),
-            6 => self.nest_in(kind::ARRAY, 0, &[Part::Under(kind::SPREAD, 0), Part::Other], depth),
-            7 => self.nest_in(kind::OBJECT, 0, &[Part::Under(kind::PROPERTY, 0)], depth),
+            6 => {
+                let mut parts = [Part::Other; 3];
+                parts[self.random.below(3)] = Part::Nested;
+                self.nest_in(kind::CONDITIONAL, 0, &parts, depth);
+            }
+            7 => self.nest_in(kind::ARRAY, 0, &[Part::Under(kind::SPREAD, 0), Part::Other], depth),
+            8 => self.nest_in(kind::OBJECT, 0, &[Part::Under(kind::PROPERTY, 0)], depth),
             _ => {
                 let member = element::PROPERTY | element::STATIC | element::VALUE;
                 self.nest_in(kind::CLASS, 0, &[Part::Under(kind::ELEMENT, member)], depth);

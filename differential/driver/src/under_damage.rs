@@ -10,15 +10,18 @@ use crate::file;
 use crate::guarded::{self, Tally};
 use crate::hostile;
 use crate::library::Library;
+use crate::logicals;
 use crate::random::Random;
-use crate::run;
+use crate::run::{self, Drawn};
+use crate::trees;
+use crate::yes;
 
 /// Shows that the guards hold, then goes through all short files and so many others of this seed.
 pub fn run(files: u64, seed: u64) -> Result<String, Difference> {
     let (ended, different) = faulty::all_are_found()?;
     println!("deliberate faults: {ended} ended by a guard, {different} found to differ");
     let (short, tally) = guarded::held(&Library, |comparator| {
-        let short = beginnings(comparator, seed)?;
+        let short = beginnings(comparator, seed)? + many_places(comparator, seed)?;
         cases(comparator, seed, files)?;
         Ok(short)
     })?;
@@ -53,14 +56,26 @@ fn met_all(tally: &Tally) -> Result<(), Difference> {
 fn beginnings(comparator: &mut Comparator, seed: u64) -> Result<u64, Difference> {
     // One record needs 24 bytes and 2 entries, two need 56 and 4; the last two fill a page.
     let rooms = [(0, 0), (23, 1), (24, 2), (25, 3), (55, 3), (56, 4), (4_096, 512)];
-    let files = hostile::beginnings(&mut Random::new(seed));
+    let mut random = Random::new(seed);
+    let files = hostile::beginnings(&mut random);
     for file in &files {
         for (output, entries) in rooms {
-            let held = comparator.alike(file, output, entries);
+            let held = comparator.alike(file, output, entries, &yes::list(&mut random, file));
             held.map_err(|difference| format!("seed {seed}, {file:?}: {difference}"))?;
         }
     }
     Ok(files.len() as u64)
+}
+
+/// A file under a list of 10,000 places, with enough lent and with too little. Answers with 1.
+fn many_places(comparator: &mut Comparator, seed: u64) -> Result<u64, Difference> {
+    let mut random = Random::new(seed);
+    let file = trees::conditional_file(&mut random, 400);
+    let (output, entries) = (file::output_room(&file), 2 * file::count(&file));
+    let yes = yes::many(&mut random, &file);
+    comparator.alike(&file, output, entries, &yes)?;
+    comparator.alike(&file, output, entries - 1, &yes)?;
+    Ok(1)
 }
 
 fn cases(comparator: &mut Comparator, seed: u64, count: u64) -> Result<(), Difference> {
@@ -72,10 +87,14 @@ fn cases(comparator: &mut Comparator, seed: u64, count: u64) -> Result<(), Diffe
 
 /// The file of number `i` under this seed, and a Derived question.
 fn case(comparator: &mut Comparator, seed: u64, i: u64) -> Result<(), Difference> {
-    let (tree, mut random) = run::tree(seed, i);
+    let Drawn { file: tree, mut random, .. } = run::tree(seed, i);
+    let tree = if random.chance(64) { logicals::with_logicals(&mut random, &tree) } else { tree };
     match random.below(4) {
         0 => alike(comparator, &mut random, &tree)?,
-        1 => comparator.refused(&damage::damaged(&mut random, &tree))?,
+        1 => {
+            let damaged = damage::damaged(&mut random, &tree);
+            comparator.refused(&damaged, &yes::list(&mut random, &tree))?;
+        }
         _ => {
             let file = hostile::file(&mut random, &tree);
             alike(comparator, &mut random, &file)?;
@@ -97,7 +116,7 @@ fn alike(comparator: &mut Comparator, random: &mut Random, file: &[u8]) -> Resul
     let records = records.clamp(1, Limits::LIST_EFFECTS.records);
     let output = room(random, file::HEADER + file::RECORD * (2 * records - 1));
     let entries = room(random, 2 * records);
-    comparator.alike(file, output, entries)
+    comparator.alike(file, output, entries, &yes::list(random, file))
 }
 
 /// Nothing, too little, just enough, or more than is needed.

@@ -16,6 +16,15 @@ unsafe extern "C" {
         entries_len: usize,
     ) -> u64;
 
+    fn uxt_list_effects_given(
+        src: *const u8,
+        src_len: usize,
+        yes: *const u32,
+        yes_len: usize,
+        entries: *mut u64,
+        entries_len: usize,
+    ) -> u64;
+
     fn uxt_derived(
         scopes: *const u8,
         scopes_len: usize,
@@ -55,6 +64,13 @@ pub fn list_effects(file: &[u8], entries: &mut [u64]) -> Packed {
     Packed(unsafe {
         uxt_list_effects(file.as_ptr(), file.len(), entries.as_mut_ptr(), entries.len())
     })
+}
+
+/// The same where the places in `yes` count as yes.
+pub fn list_effects_given(file: &[u8], yes: &[u32], entries: &mut [u64]) -> Packed {
+    let (src, list, out) = (file.as_ptr(), yes.as_ptr(), entries.as_mut_ptr());
+    // SAFETY: each pointer comes with the length of its slice, and no two overlap.
+    Packed(unsafe { uxt_list_effects_given(src, file.len(), list, yes.len(), out, entries.len()) })
 }
 
 /// 0 for no, 1 for yes, or the refusal's number.

@@ -89,7 +89,7 @@ impl<'a> Decoder<'_, 'a> {
             17 => Expression::NewExpression(ArenaBox::new(self.new_expression(node))),
             18 => Expression::ClassExpression(ArenaBox::new(self.class(node))),
             20 => left_out("the logical handler"),
-            21 => left_out("the conditional handler"),
+            21 => Expression::ConditionalExpression(ArenaBox::new(self.conditional(node))),
             22 => left_out("the assignment handler"),
             kind => panic!("kind {kind} is no expression"),
         }
@@ -212,6 +212,14 @@ impl<'a> Decoder<'_, 'a> {
         let (callee, arguments) = self.callee_and_arguments(node);
         let pure = node.facts & 32 != 0;
         NewExpression { span: node.span, record: node.record(), pure, callee, arguments }
+    }
+
+    fn conditional(&mut self, node: Node) -> ConditionalExpression<'a> {
+        let test = self.expression();
+        let consequent = self.expression();
+        let alternate = self.expression();
+        let record = node.record();
+        ConditionalExpression { span: node.span, record, test, consequent, alternate }
     }
 
     fn class(&mut self, node: Node) -> Class<'a> {

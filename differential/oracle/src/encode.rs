@@ -75,6 +75,10 @@ impl Encoder {
         self.node(head, |_, _| {})
     }
 
+    fn expressions(&mut self, head: Head, children: &[&Expression]) -> bool {
+        self.node(head, |s, c| children.iter().for_each(|child| c.add(s.expression(child))))
+    }
+
     fn expression(&mut self, tree: &Expression) -> bool {
         match tree {
             Expression::StringLiteral(e) => {
@@ -94,14 +98,11 @@ impl Encoder {
             }
             Expression::UnaryExpression(e) => {
                 let head = Head::of(14, unary_sub(e.operator), e.span, e.record);
-                self.node(head, |s, c| c.add(s.expression(&e.argument)))
+                self.expressions(head, &[&e.argument])
             }
             Expression::BinaryExpression(e) => {
                 let head = Head::of(15, binary_sub(e.operator), e.span, e.record);
-                self.node(head, |s, c| {
-                    c.add(s.expression(&e.left));
-                    c.add(s.expression(&e.right));
-                })
+                self.expressions(head, &[&e.left, &e.right])
             }
             Expression::CallExpression(e) => {
                 let head = Head::of(16, 0, e.span, e.record);
@@ -112,6 +113,8 @@ impl Encoder {
                 self.node(head, |s, c| s.arguments(c, &e.callee, &e.arguments))
             }
             Expression::ClassExpression(e) => self.class(e),
+            Expression::LogicalExpression(e) => self.logical(e),
+            Expression::ConditionalExpression(e) => self.conditional(e),
             _ => panic!("the answer holds a node that no tree file has"),
         }
     }
@@ -178,6 +181,16 @@ impl Encoder {
                 Argument::Expression(e) => self.expression(e),
             });
         }
+    }
+
+    fn logical(&mut self, e: &LogicalExpression) -> bool {
+        let head = Head::of(20, logical_sub(e.operator), e.span, e.record);
+        self.expressions(head, &[&e.left, &e.right])
+    }
+
+    fn conditional(&mut self, e: &ConditionalExpression) -> bool {
+        let head = Head::of(21, 0, e.span, e.record);
+        self.expressions(head, &[&e.test, &e.consequent, &e.alternate])
     }
 
     fn class(&mut self, class: &Class) -> bool {
@@ -258,5 +271,14 @@ fn binary_sub(operator: BinaryOperator) -> u8 {
         | BinaryOperator::GreaterEqualThan => 1,
         BinaryOperator::Addition => 2,
         _ => 3,
+    }
+}
+
+/// "Sub 1 for and, 2 for or."
+fn logical_sub(operator: LogicalOperator) -> u8 {
+    match operator {
+        LogicalOperator::And => 1,
+        LogicalOperator::Or => 2,
+        LogicalOperator::Coalesce => panic!("the conditional handler makes no such node"),
     }
 }

@@ -11,7 +11,8 @@
 //! - `D`, a 32-bit count, then that many pairs of lists, scopes and ancestors, each behind its
 //!   length in a byte: for each pair a byte, 1 for yes and 0 for no.
 //!
-//! Files and lists are those that document 01 accepts; anything else ends the run.
+//! Files are those that Reduce takes, and lists those that the Derived question takes; anything else
+//! ends the run.
 
 mod context;
 mod decode;

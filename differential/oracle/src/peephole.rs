@@ -29,6 +29,20 @@ mod fold_constants {
     }
 }
 
+/// The conditional handler's, of a file that is not at hand: the two are joined as they stand. Whether
+/// and how the published function regroups them is not known here.
+impl<'a> PeepholeOptimizations {
+    fn join_with_left_associative_op(
+        span: Span,
+        operator: LogicalOperator,
+        left: Expression<'a>,
+        right: Expression<'a>,
+        ctx: &TraverseCtx<'a>,
+    ) -> Expression<'a> {
+        Expression::new_logical_expression(span, left, operator, right, ctx)
+    }
+}
+
 /// Functions of files that are not compiled here. Only left-out handlers call them.
 impl<'a> PeepholeOptimizations {
     pub fn minimize_expression_in_boolean_context(_: &mut Expression<'a>, _: &mut TraverseCtx<'a>) {
@@ -54,16 +68,6 @@ impl<'a> PeepholeOptimizations {
 
     fn mark_assignment_target_as_read(_: &AssignmentTarget<'a>, _: &TraverseCtx<'a>) {
         left_out("mark_assignment_target_as_read")
-    }
-
-    fn join_with_left_associative_op(
-        _: Span,
-        _: LogicalOperator,
-        _: Expression<'a>,
-        _: Expression<'a>,
-        _: &TraverseCtx<'a>,
-    ) -> Expression<'a> {
-        left_out("join_with_left_associative_op")
     }
 
     fn is_script_root_scope(_: &TraverseCtx<'a>) -> bool {

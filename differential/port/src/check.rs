@@ -2,18 +2,21 @@
 
 use super::tree::{HEADER_SIZE, LITERAL_FACTS, RECORD_SIZE, Record, Tree, element, kind, sub};
 
-/// How many records a file may have, and how deep its tree may be.
+/// How many records a file may have, how deep its tree may be, and whether logical nodes are taken.
 #[derive(Clone, Copy, PartialEq, Eq)]
 pub struct Limits {
     pub records: usize,
     pub depth: usize,
+    pub logicals: bool,
 }
 
 impl Limits {
-    /// "4 count not 1–2,000 ...; 8 depth over 64 (root 1)."
-    pub const REDUCE: Limits = Limits { records: 2_000, depth: 64 };
-    /// "1–8 likewise, but count to 3,999 and depth to 65."
-    pub const LIST_EFFECTS: Limits = Limits { records: MAX_RECORDS, depth: 65 };
+    /// "4 count not 1–2,000 ...; 8 depth over 64 (root 1)." Of kind 20, "the reducer still refuses
+    /// it with 6" (02, N1).
+    pub const REDUCE: Limits = Limits { records: 2_000, depth: 64, logicals: false };
+    /// "1–8 likewise, but count to 3,999 and depth to 65." "Kind 20, with sub 1 or 2 and two
+    /// expressions, is read by the effect listing" (02, N1).
+    pub const LIST_EFFECTS: Limits = Limits { records: MAX_RECORDS, depth: 65, logicals: true };
 }
 
 /// The largest limits: more records are refused, and a greater depth is not told apart.
@@ -24,7 +27,7 @@ const MAX_DEPTH: usize = 254;
 /// over all records before the next number is.
 pub fn check(file: &[u8], limits: Limits) -> Result<Tree<'_>, u8> {
     let tree = check_header(file, limits.records)?;
-    check_records(tree.records)?;
+    check_records(tree.records, limits.logicals)?;
     check_shape(tree, limits.depth)?;
     Ok(tree)
 }
@@ -51,15 +54,23 @@ fn check_header(file: &[u8], max_records: usize) -> Result<Tree<'_>, u8> {
 }
 
 /// "5 kind, facts, sub or byte 3; 6 kinds 20–22."
-fn check_records(records: &[Record]) -> Result<(), u8> {
-    let mut left_out = false;
+fn check_records(records: &[Record], logicals: bool) -> Result<(), u8> {
+    let mut any = false;
     for record in records {
         if !is_good(record) {
             return Err(5);
         }
-        left_out |= record[0] >= kind::LOGICAL;
+        any |= record[0] >= kind::LOGICAL;
     }
+    // Kinds 20 to 22 are told apart only where there is one: most files have none.
+    let left_out = any && records.iter().any(|record| is_left_out(record, logicals));
     if left_out { Err(6) } else { Ok(()) }
+}
+
+/// Of kinds 20 to 22, conditionals are taken; of a logical, "sub 0 stays 6 in both" (02, N1).
+fn is_left_out(record: &Record, logicals: bool) -> bool {
+    let [kind, _, sub, ..] = *record;
+    kind == kind::ASSIGNMENT || kind == kind::LOGICAL && (sub == 0 || !logicals)
 }
 
 /// "Allowed facts stand in a constant table by kind: 0 for 8, 11, 19; 1 for 9; 255 for 16; 127
@@ -126,7 +137,7 @@ const fn are_facts_good(kind: u8, facts: u8) -> bool {
         && (kind != kind::STRING_LITERAL || facts == LITERAL_FACTS)
 }
 
-/// "Other subs are 0."
+/// "Other subs are 0." Of a logical, 0 passes 5, and 6 is for it.
 const fn is_sub_good(kind: u8, sub: u8) -> bool {
     match kind {
         kind::PROPERTY => sub <= sub::KEY_AND_VALUE,
@@ -134,6 +145,7 @@ const fn is_sub_good(kind: u8, sub: u8) -> bool {
         kind::BINARY => sub::COMPARISON <= sub && sub <= sub::OTHER_BINARY,
         kind::CLASS => sub <= sub::CLASS_DECORATED | sub::CLASS_HERITAGE,
         kind::ELEMENT => is_element_sub_good(sub),
+        kind::LOGICAL => sub <= sub::OR,
         _ => sub == 0,
     }
 }
@@ -215,7 +227,7 @@ impl Kinds {
     }
 }
 
-/// Kinds 20 to 22 are refused before the shape is tested.
+/// Assignments are refused before the shape is tested.
 const EXPRESSIONS: Kinds = Kinds::of(&[
     kind::STRING_LITERAL,
     kind::IDENTIFIER,
@@ -232,6 +244,8 @@ const EXPRESSIONS: Kinds = Kinds::of(&[
     kind::CALL,
     kind::NEW,
     kind::CLASS,
+    kind::LOGICAL,
+    kind::CONDITIONAL,
 ]);
 
 /// What may stand under a node of some kind.
@@ -275,7 +289,8 @@ impl Under {
 /// "Children: leaves, this and elision have none; spread and unary one; binary two; call and new
 /// at least one; others as above. An array takes expressions, spreads, elisions; arguments are
 /// expressions or spreads; an object has only spreads and properties, a class its heritage, then
-/// only elements. Every other child, and the root, is an expression."
+/// only elements. Every other child, and the root, is an expression." "Kind 21 is accepted with
+/// children test, consequent, alternate", kind 20 with "two expressions" (02, N1).
 static UNDER: [Under; KINDS] = {
     let mut under = [Under::exactly(0); KINDS];
     let spreads = Kinds::of(&[kind::SPREAD]);
@@ -299,5 +314,7 @@ static UNDER: [Under; KINDS] = {
     };
     let element_children = element::COMPUTED_KEY | element::VALUE;
     under[kind::ELEMENT as usize] = Under { bits: element_children, ..Under::exactly(0) };
+    under[kind::LOGICAL as usize] = Under::exactly(2);
+    under[kind::CONDITIONAL as usize] = Under::exactly(3);
     under
 };

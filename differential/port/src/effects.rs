@@ -12,8 +12,13 @@ pub enum Listed {
     Count(usize),
 }
 
-/// Lists the effects of the file's tree into `entries`.
+/// Lists the effects of the file's tree into `entries`, where no place counts as yes.
 pub fn list_effects(file: &[u8], entries: &mut [u64]) -> Listed {
+    list_effects_given(file, &[], entries)
+}
+
+/// The same where the places in `yes` count as yes: "any list" (02, N1).
+pub fn list_effects_given(file: &[u8], yes: &[u32], entries: &mut [u64]) -> Listed {
     let tree = match check(file, Limits::LIST_EFFECTS) {
         Ok(tree) => tree,
         Err(number) => return Listed::Refused(number),
@@ -22,13 +27,14 @@ pub fn list_effects(file: &[u8], entries: &mut [u64]) -> Listed {
     if entries.len() < 2 * tree.records.len() {
         return Listed::Refused(10);
     }
-    let mut listing = Listing { tree, entries, count: 0 };
+    let mut listing = Listing { tree, yes, entries, count: 0 };
     listing.node(0);
     Listed::Count(listing.count)
 }
 
 struct Listing<'a> {
     tree: Tree<'a>,
+    yes: &'a [u32],
     entries: &'a mut [u64],
     count: usize,
 }
@@ -73,6 +79,7 @@ impl Listing<'_> {
             kind::TEMPLATE => self.template(i),
             kind::CALL | kind::NEW => self.call_or_new(i),
             kind::CLASS => self.class(i),
+            kind::LOGICAL | kind::CONDITIONAL => self.test_then_arm(i),
             _ => self.children(i),
         }
     }
@@ -148,6 +155,14 @@ impl Listing<'_> {
         }
         for argument in self.tree.children(i).skip(1) {
             self.node(argument);
+        }
+    }
+
+    /// "The effect list has the test, then the arm run" (02, N1). The node itself is no effect.
+    fn test_then_arm(&mut self, i: usize) {
+        self.node(i + 1);
+        if let Some(arm) = self.tree.arm_run(i, self.yes) {
+            self.node(arm);
         }
     }
 

@@ -1,9 +1,10 @@
-//! Document 01 in plain Rust, over the flat bytes and without allocation.
+//! Document 01 in plain Rust, over the flat bytes and without allocation, with the requests of
+//! document 02 that have landed: N1, conditionals.
 //!
 //! The port is the baseline for speed and the reference for refusals and effects. It is written
-//! from document 01, in the order of its sections: the tree file (`tree`), the refusals (`check`),
-//! the handlers (`outcome` decides, `reduce` writes), the effect list (`effects`), the Derived
-//! question (`derived`) and the premise of demand 3 (`premise`).
+//! from the two documents, in the order of 01's sections: the tree file (`tree`), the refusals
+//! (`check`), the handlers (`outcome` decides, `reduce` writes), the effect list (`effects`), the
+//! Derived question (`derived`) and the premise of demand 3 (`premise`).
 
 #![forbid(unsafe_code)]
 
@@ -17,7 +18,7 @@ mod tree;
 
 pub use check::{Limits, check};
 pub use derived::{Derived, derived};
-pub use effects::{Listed, list_effects};
+pub use effects::{Listed, list_effects, list_effects_given};
 pub use outcome::{Marks, Outcome, outcomes};
 pub use premise::{Read, premise, reads};
 pub use reduce::{Reduced, reduce};

@@ -17,8 +17,11 @@ pub enum Outcome {
     One,
     /// A made sequence of several expressions takes its place (of one or more, at a class).
     Several,
-    /// "An array, sequence or addition that stays keeps its own facts, sub, text and place."
+    /// "An array, sequence or addition that stays keeps its own facts, sub, text and place", and so
+    /// does a conditional.
     Stays,
+    /// A made logical of a conditional's test and the one arm that stays takes its place.
+    Logical,
 }
 
 /// A node's outcome, and what others ask of it, in a byte.
@@ -64,7 +67,8 @@ impl Mark {
             1 => Outcome::Whole,
             2 => Outcome::One,
             3 => Outcome::Several,
-            _ => Outcome::Stays,
+            4 => Outcome::Stays,
+            _ => Outcome::Logical,
         }
     }
 }
@@ -140,6 +144,7 @@ fn mark(tree: Tree, marks: &Marks, i: usize) -> Mark {
         kind::BINARY => binary(tree, marks, i),
         kind::CALL | kind::NEW => call_or_new(tree, marks, i),
         kind::CLASS => class(tree, i),
+        kind::CONDITIONAL => conditional(tree, marks, i),
         // "Leaf (kinds 1–5): removable exactly if not flagged." Elisions, spreads, properties and
         // elements are no expressions: their parents' handlers see to them.
         _ => Mark::whole_if(tree.flagged(i)),
@@ -352,4 +357,23 @@ fn class(tree: Tree, i: usize) -> Mark {
                 || tree.static_value(e).is_some()
         });
     if extracts { Mark::of(Outcome::Several).with(IS_SEQUENCE, true) } else { Mark::REMOVED }
+}
+
+/// "Unflagged is removable. Else both arms are reduced: both gone leaves the reduced test, or
+/// removable if the test goes too. One gone leaves a logical node ... of the unreduced test and the
+/// arm that stays ... Neither gone keeps the conditional" (02, N1).
+fn conditional(tree: Tree, marks: &Marks, i: usize) -> Mark {
+    if !tree.flagged(i) {
+        return Mark::REMOVED;
+    }
+    let [test, consequent, alternate] = tree.test_and_arms(i);
+    match (marks.is_kept(consequent), marks.is_kept(alternate)) {
+        (false, false) => {
+            let mut pieces = Pieces::NONE;
+            pieces.reduced(marks, test);
+            pieces.mark()
+        }
+        (true, true) => Mark::of(Outcome::Stays),
+        _ => Mark::of(Outcome::Logical),
+    }
 }

@@ -12,10 +12,11 @@ pub struct Read {
     pub has_effects: bool,
 }
 
-/// Whether every node whose clear flag is read has an empty effect list.
-pub fn premise(tree: Tree, marks: &Marks) -> bool {
+/// Whether every node whose clear flag is read has an empty effect list where the places in `yes`
+/// count as yes: "the premise being read under the same list" (02, N1).
+pub fn premise(tree: Tree, marks: &Marks, yes: &[u32]) -> bool {
     let mut holds = true;
-    reads(tree, marks, &mut |read| holds &= !read.has_effects);
+    reads(tree, marks, yes, &mut |read| holds &= !read.has_effects);
     holds
 }
 
@@ -23,10 +24,10 @@ pub fn premise(tree: Tree, marks: &Marks) -> bool {
 /// spread goes (alone or with its object), or a side of an addition is dropped or becomes the
 /// empty literal, a folded left being taken as it then stands; also at heritage, computed keys and
 /// static values of an extracted class."
-pub fn reads(tree: Tree, marks: &Marks, visit: &mut impl FnMut(Read)) {
+pub fn reads(tree: Tree, marks: &Marks, yes: &[u32], visit: &mut impl FnMut(Read)) {
     let mut facts = [Effectful::default(); MAX_RECORDS];
     for i in (0..tree.records.len()).rev() {
-        facts[i] = effectful(tree, marks, &facts, i);
+        facts[i] = effectful(tree, marks, yes, &facts, i);
     }
     Reader { tree, marks, facts: &facts, visit }.expression(0);
 }
@@ -41,7 +42,7 @@ struct Effectful {
     folded: bool,
 }
 
-fn effectful(tree: Tree, marks: &Marks, facts: &[Effectful], i: usize) -> Effectful {
+fn effectful(tree: Tree, marks: &Marks, yes: &[u32], facts: &[Effectful], i: usize) -> Effectful {
     let has = |i: usize| facts[i].recorded;
     let any = || tree.children(i).any(has);
     let own = tree.flagged(i);
@@ -57,6 +58,9 @@ fn effectful(tree: Tree, marks: &Marks, facts: &[Effectful], i: usize) -> Effect
         (kind::CALL | kind::NEW, _) => any() || own,
         (kind::TEMPLATE, _) => tree.children(i).any(|c| has(c) || tree.possible_symbol(c)),
         (kind::CLASS, _) => class(tree, facts, i),
+        (kind::LOGICAL | kind::CONDITIONAL, _) => {
+            has(i + 1) || tree.arm_run(i, yes).is_some_and(has)
+        }
         _ => any(),
     };
     let folded = if tree.is_addition(i) { folded(tree, marks, facts, i) } else { recorded };
@@ -149,6 +153,7 @@ impl<V: FnMut(Read)> Reader<'_, V> {
             kind::UNARY => self.expression(i + 1),
             kind::BINARY => self.binary(i),
             kind::CALL | kind::NEW => self.call_or_new(i),
+            kind::CONDITIONAL => self.conditional(i),
             _ => self.class(i),
         }
     }
@@ -224,6 +229,19 @@ impl<V: FnMut(Read)> Reader<'_, V> {
             for node in [tree.computed_key(e), tree.static_value(e)].into_iter().flatten() {
                 self.flag(node);
             }
+        }
+    }
+
+    /// "Unflagged is removable. Else both arms are reduced"; the test only where both are gone.
+    fn conditional(&mut self, i: usize) {
+        if !self.tree.flagged(i) {
+            return self.flag(i);
+        }
+        let [test, consequent, alternate] = self.tree.test_and_arms(i);
+        self.expression(consequent);
+        self.expression(alternate);
+        if !self.marks.is_kept(consequent) && !self.marks.is_kept(alternate) {
+            self.expression(test);
         }
     }
 }

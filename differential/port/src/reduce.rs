@@ -94,6 +94,7 @@ impl Writer<'_> {
                 kind::BINARY if self.tree.sub(i) == sub::COMPARISON => self.comparison(i)?,
                 kind::BINARY => self.folded(i),
                 kind::CALL | kind::NEW => self.arguments(i),
+                kind::CONDITIONAL => self.conditional(i)?,
                 _ => self.class(i),
             }),
         }
@@ -371,5 +372,32 @@ impl Writer<'_> {
             }
         }
         self.close(i, list)
+    }
+
+    /// "Both gone leaves the reduced test"; else the test is not reduced, and what stays of the arms
+    /// stands behind it.
+    fn conditional(&mut self, i: usize) -> Option<Written> {
+        let [test, consequent, alternate] = self.tree.test_and_arms(i);
+        if self.marks.outcome(i) == Outcome::One {
+            return self.expression(test);
+        }
+        let mut list = self.begin();
+        list.add(self.copy(test));
+        list.add_kept(self.expression(consequent));
+        list.add_kept(self.expression(alternate));
+        if self.marks.outcome(i) == Outcome::Logical {
+            // "A dropped consequent gives or, a dropped alternate and."
+            let sub = if self.marks.is_kept(consequent) { sub::AND } else { sub::OR };
+            self.make_logical(&list, sub, self.tree.place(i));
+            return Some(Written { flagged: list.flagged, child_flagged: false });
+        }
+        self.stay(i, list.at, list.count);
+        Some(Written { flagged: self.tree.flagged(i), child_flagged: false })
+    }
+
+    /// "A logical node (kind 20, sub 1 for and, 2 for or) ... takes the conditional's place."
+    fn make_logical(&mut self, list: &List, sub: u8, place: u32) {
+        self.make(list, kind::LOGICAL, place, self.end);
+        self.out[list.at][2] = sub;
     }
 }

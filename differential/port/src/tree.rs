@@ -46,6 +46,8 @@ pub mod sub {
     pub const OTHER_BINARY: u8 = 3;
     pub const CLASS_DECORATED: u8 = 1;
     pub const CLASS_HERITAGE: u8 = 2;
+    pub const AND: u8 = 1;
+    pub const OR: u8 = 2;
 }
 
 /// "Element sub: bits 0–2 method 1, property 2, accessor 3, static block 4, index signature 5;
@@ -199,6 +201,27 @@ impl<'a> Tree<'a> {
     /// Of an object: "only spreads".
     pub fn only_spreads(self, i: usize) -> bool {
         self.children(i).all(|child| self.kind(child) == kind::SPREAD)
+    }
+
+    /// The test, consequent and alternate of a conditional.
+    #[inline]
+    pub fn test_and_arms(self, i: usize) -> [usize; 3] {
+        let consequent = self.after(i + 1);
+        [i + 1, consequent, self.after(consequent)]
+    }
+
+    /// Of a conditional or a logical: the part that runs after its test, if any does. "The listing is
+    /// lent the places that count as yes, any list, other test places being no"; of a logical, "its
+    /// right side running on yes for and, on no for or" (02, N1).
+    pub fn arm_run(self, i: usize, yes: &[u32]) -> Option<usize> {
+        let is_yes = yes.contains(&self.place(i + 1));
+        match (self.kind(i), self.sub(i)) {
+            (kind::CONDITIONAL, _) => {
+                let [_, consequent, alternate] = self.test_and_arms(i);
+                Some(if is_yes { consequent } else { alternate })
+            }
+            (_, sub) => (is_yes == (sub == sub::AND)).then(|| self.after(i + 1)),
+        }
     }
 
     /// The heritage of a class.

@@ -1,19 +1,20 @@
 //! Deliberately wrong ports, each a copy of the port with an edit of a line or two: the driver must
 //! find every one. The edits stand apart from the port, so that the port has no hooks for them.
 //!
-//! `wrong [--trees N] [--seed S] [--oracle PATH]` prints how many trees (each with a damaged copy
-//! and two Derived questions) it takes until the wrong port differs from the port; until a promise
-//! that holds of every answer is broken, with no other side at hand; where the oracle can see it,
-//! until it differs from the oracle; and how many cases of the fixed list it takes. It fails if one
-//! is not found by all that its edit names, of which the oracle counts where it is given, or if the
-//! port itself is found.
+//! `wrong [--trees N] [--seed S] [--oracle PATH]` prints how many trees (each with a damaged copy, a
+//! copy with logicals and two Derived questions) it takes until the wrong port differs from the
+//! port; until a promise that holds of every answer is broken, with no other side at hand; where the
+//! oracle can see it, until it differs from the oracle; and how many cases of the fixed list it
+//! takes. It fails if one is not found by all that its edit names, of which the oracle counts where
+//! it is given, or if the port itself is found.
 
 use driver::compare::{Comparator, Difference};
 use driver::fixed::Case;
 use driver::oracle::Oracle;
 use driver::random::Random;
+use driver::run::{self, Drawn};
 use driver::side::{Answer, Listing, Port, Reduction, Side};
-use driver::{derived, file, fixed, run};
+use driver::{derived, file, fixed};
 use port::Limits;
 use std::fmt::{self, Display, Formatter};
 use std::panic::{self, AssertUnwindSafe};
@@ -33,6 +34,15 @@ macro_rules! wrong {
     ($port:ident, $why:literal, $oracle:literal, $list:literal) => {{
         struct This;
 
+        impl This {
+            fn listing(&self, listed: $port::Listed) -> Listing {
+                match listed {
+                    $port::Listed::Refused(number) => Listing { number, count: 0 },
+                    $port::Listed::Count(count) => Listing { number: 0, count },
+                }
+            }
+        }
+
         impl Side for This {
             fn name(&self) -> &str {
                 stringify!($port)
@@ -47,10 +57,11 @@ macro_rules! wrong {
             }
 
             fn list_effects(&self, file: &[u8], entries: &mut [u64]) -> Listing {
-                match $port::list_effects(file, entries) {
-                    $port::Listed::Refused(number) => Listing { number, count: 0 },
-                    $port::Listed::Count(count) => Listing { number: 0, count },
-                }
+                self.listing($port::list_effects(file, entries))
+            }
+
+            fn list_effects_given(&self, file: &[u8], yes: &[u32], entries: &mut [u64]) -> Listing {
+                self.listing($port::list_effects_given(file, yes, entries))
             }
 
             fn derived(&self, scopes: &[u8], ancestors: &[u8]) -> Answer {
@@ -177,7 +188,7 @@ fn search_list(side: &dyn Side, list: &[Case]) -> Option<u64> {
     })
 }
 
-/// A tree with a damaged copy, and two Derived questions.
+/// A tree with its copies, damaged and with logicals, and two Derived questions.
 fn held(
     comparator: &mut Comparator,
     random: &mut Random,
@@ -202,7 +213,7 @@ type Question = (Vec<u8>, Vec<u8>);
 impl OracleSays {
     fn ask(path: &str, trees: Trees) -> io::Result<OracleSays> {
         let mut oracle = Oracle::start(path)?;
-        let files: Vec<Vec<u8>> = (0..trees.count).map(|i| run::tree(trees.seed, i).0).collect();
+        let files: Vec<Vec<u8>> = (0..trees.count).map(|i| run::tree(trees.seed, i).file).collect();
         let reduced = oracle.reduce(&files)?;
         let mut random = Random::new(trees.seed);
         let questions: Vec<_> = files.iter().map(|_| derived::question(&mut random)).collect();
@@ -214,7 +225,7 @@ impl OracleSays {
     /// How many trees it takes until the side differs from the oracle.
     fn search(&self, side: &dyn Side) -> Option<u64> {
         first(self.trees.count, |i| {
-            let (file, _) = run::tree(self.trees.seed, i);
+            let Drawn { file, .. } = run::tree(self.trees.seed, i);
             let ((scopes, ancestors), yes) = &self.derived[i as usize];
             reduced(side, &file) == self.reduced[i as usize]
                 && (side.derived(scopes, ancestors) == Answer::Yes) == *yes

@@ -24,12 +24,13 @@ pub enum Expression<'a> {
     CallExpression(ArenaBox<'a, CallExpression<'a>>),
     NewExpression(ArenaBox<'a, NewExpression<'a>>),
     ClassExpression(ArenaBox<'a, Class<'a>>),
+    ConditionalExpression(ArenaBox<'a, ConditionalExpression<'a>>),
+    /// Made of a conditional alone: no tree file that is reduced has one.
+    LogicalExpression(ArenaBox<'a, LogicalExpression<'a>>),
     /// What `take_in` leaves behind.
     Taken,
     // No tree file makes one of these.
     AssignmentExpression(ArenaBox<'a, AssignmentExpression<'a>>),
-    ConditionalExpression(ArenaBox<'a, ConditionalExpression<'a>>),
-    LogicalExpression(ArenaBox<'a, LogicalExpression<'a>>),
     NumericLiteral(ArenaBox<'a, NumericLiteral>),
     BooleanLiteral(ArenaBox<'a, BooleanLiteral>),
     NullLiteral(Never),
@@ -257,6 +258,22 @@ impl<'a> Class<'a> {
     }
 }
 
+pub struct ConditionalExpression<'a> {
+    pub span: Span,
+    pub record: Record,
+    pub test: Expression<'a>,
+    pub consequent: Expression<'a>,
+    pub alternate: Expression<'a>,
+}
+
+pub struct LogicalExpression<'a> {
+    pub span: Span,
+    pub record: Record,
+    pub left: Expression<'a>,
+    pub operator: LogicalOperator,
+    pub right: Expression<'a>,
+}
+
 pub struct Decorator;
 
 pub struct ClassHeritage<'a> {
@@ -360,6 +377,8 @@ impl Expression<'_> {
             Expression::CallExpression(e) => e.record,
             Expression::NewExpression(e) => e.record,
             Expression::ClassExpression(e) => e.record,
+            Expression::ConditionalExpression(e) => e.record,
+            Expression::LogicalExpression(e) => e.record,
             _ => panic!("a handler asked for the facts of a node that no tree file has"),
         }
     }
@@ -399,6 +418,8 @@ impl GetSpan for Expression<'_> {
             Expression::CallExpression(e) => e.span,
             Expression::NewExpression(e) => e.span,
             Expression::ClassExpression(e) => e.span,
+            Expression::ConditionalExpression(e) => e.span,
+            Expression::LogicalExpression(e) => e.span,
             _ => panic!("a handler asked for the span of a node that no tree file has"),
         }
     }

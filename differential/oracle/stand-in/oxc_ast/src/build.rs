@@ -55,13 +55,14 @@ impl<'a> Expression<'a> {
     }
 
     pub fn new_logical_expression<A>(
-        _: Span,
-        _: Expression<'a>,
-        _: LogicalOperator,
-        _: Expression<'a>,
+        span: Span,
+        left: Expression<'a>,
+        operator: LogicalOperator,
+        right: Expression<'a>,
         _: &A,
     ) -> Self {
-        left_out("Expression::new_logical_expression")
+        let node = LogicalExpression { span, record: Record::Made, left, operator, right };
+        Expression::LogicalExpression(ArenaBox::new(node))
     }
 }
 

@@ -6,7 +6,7 @@ use oxc_span::Span;
 use oxc_syntax::left_out;
 
 use crate::ast::{Expression, IdentifierReference};
-use crate::operators::{AssignmentOperator, LogicalOperator};
+use crate::operators::AssignmentOperator;
 
 pub enum Never {}
 
@@ -17,22 +17,6 @@ pub struct NumericLiteral {
 
 pub struct BooleanLiteral {
     pub value: bool,
-    pub never: Never,
-}
-
-pub struct LogicalExpression<'a> {
-    pub span: Span,
-    pub left: Expression<'a>,
-    pub operator: LogicalOperator,
-    pub right: Expression<'a>,
-    pub never: Never,
-}
-
-pub struct ConditionalExpression<'a> {
-    pub span: Span,
-    pub test: Expression<'a>,
-    pub consequent: Expression<'a>,
-    pub alternate: Expression<'a>,
     pub never: Never,
 }
 

@@ -1,0 +1,55 @@
+//! How often the listing ran each side of a test, by the places that count as yes.
+
+use port::{Tree, kind, sub};
+
+use crate::hits::{Hit, Hits};
+
+/// The tests that listing this tree under this list comes to.
+pub fn of_list(tree: Tree, yes: &[u32]) -> Hits {
+    let mut walk = Walk { tree, yes, hits: Hits::default() };
+    walk.node(0);
+    walk.hits
+}
+
+/// Goes where the listing goes.
+struct Walk<'a> {
+    tree: Tree<'a>,
+    yes: &'a [u32],
+    hits: Hits,
+}
+
+impl Walk<'_> {
+    fn nodes(&mut self, nodes: impl Iterator<Item = usize>) {
+        for node in nodes {
+            self.node(node);
+        }
+    }
+
+    fn node(&mut self, i: usize) {
+        let tree = self.tree;
+        match tree.kind(i) {
+            kind::LOGICAL | kind::CONDITIONAL => self.test(i),
+            kind::CALL | kind::NEW if tree.is_pure(i) => self.nodes(tree.children(i).skip(1)),
+            kind::CLASS => {
+                self.nodes(tree.heritage(i).into_iter());
+                self.nodes(tree.elements(i).filter_map(|e| tree.computed_key(e)));
+                self.nodes(tree.elements(i).filter_map(|e| tree.static_value(e)));
+            }
+            _ => self.nodes(tree.children(i)),
+        }
+    }
+
+    fn test(&mut self, i: usize) {
+        let is_yes = self.yes.contains(&self.tree.place(i + 1));
+        self.hits.hit(match (self.tree.kind(i), self.tree.sub(i), is_yes) {
+            (kind::CONDITIONAL, _, true) => Hit::ListedConsequent,
+            (kind::CONDITIONAL, _, false) => Hit::ListedAlternate,
+            (_, sub::AND, true) => Hit::ListedAndRight,
+            (_, sub::AND, false) => Hit::ListedAndLeft,
+            (_, _, true) => Hit::ListedOrLeft,
+            (_, _, false) => Hit::ListedOrRight,
+        });
+        self.node(i + 1);
+        self.nodes(self.tree.arm_run(i, self.yes).into_iter());
+    }
+}
