@@ -1,14 +1,15 @@
 #!/usr/bin/env python3
-"""Writes twenty JavaScript expressions as tree files.
+"""Writes twenty-two JavaScript expressions as tree files.
 
-Usage: python3 exporter.py FOLDER    writes FOLDER/01.uxt to FOLDER/20.uxt
+Usage: python3 exporter.py FOLDER    writes FOLDER/01.uxt to FOLDER/22.uxt
 
 A real exporter walks the tree of a parser. Here the trees are built by hand,
 so that the script shows the format and nothing else: first the writer, then
-short forms for common nodes, then the table of the expressions. It was
-written from docs/FORMAT.md alone, and shares no code with this repository.
+short forms for common nodes, then the table of the expressions. All but the
+last two of these were written from docs/FORMAT.md alone. It shares no code
+with this repository.
 
-Of all twenty it is known that names are parameters of the function around,
+Of all of them it is known that names are parameters of the function around,
 so that to read one has no effect, and nothing of what is called or spread.
 """
 
@@ -16,17 +17,18 @@ import struct
 import sys
 from pathlib import Path
 
-# Kinds, in the order of their numbers: 1 to 20.
+# Kinds, in the order of their numbers: 1 to 21.
 (STRING, NAME, FUNCTION, ARROW, LEAF, THIS, ARRAY, ELISION, SPREAD, OBJECT,
  PROPERTY, TEMPLATE, SEQUENCE, UNARY, BINARY, CALL, NEW, CLASS, ELEMENT,
- LOGICAL) = range(1, 21)
+ LOGICAL, CONDITIONAL) = range(1, 22)
 
 # Subs. That of a class element is a form, with bits added. FIELD is the form
 # "property", named so to tell it from the kind.
 VALUE, KEY_AND_VALUE = 0, 1                       # property
-VOID, TYPEOF, OTHER_UNARY = 1, 3, 4               # unary
+VOID, NOT, TYPEOF, OTHER_UNARY = 1, 2, 3, 4       # unary
 COMPARISON, ADDITION, OTHER_BINARY = 1, 2, 3      # binary
 HERITAGE = 2                                      # class
+NULLISH, AND, OR = 0, 1, 2                        # logical: ??, &&, ||
 METHOD, FIELD, ACCESSOR, STATIC_BLOCK = 1, 2, 3, 4  # class element: forms
 STATIC, COMPUTED, WITH_VALUE = 8, 16, 64          # class element: bits
 
@@ -142,10 +144,10 @@ EXPRESSIONS = [
     # 04: a tagged template is a leaf and no template, so it has no text.
     ("tag`x${a}`", 0, lambda at: leaf(EFFECT, 0)),
 
-    # 05: refused by 6, since nothing takes a logical expression yet.
+    # 05: refused by 6, since Reduce takes no logical expression.
     ("[a && b]", 0, lambda at:
         Node(ARRAY, 0, 0, 0,
-             Node(LOGICAL, 0, 0, at("a"),
+             Node(LOGICAL, 0, AND, at("a"),
                   name("a", at("a")),
                   name("b", at("b"))))),
 
@@ -275,6 +277,29 @@ EXPRESSIONS = [
              leaf(NO_STRING, at("null")),
              string("é", at('"é"')),
              name("ü", at("ü")))),
+
+    # 21: flagged for its arms. It starts together with its test, and the
+    # conditional in the alternate with its own.
+    ("!a ? f() : b ? 1 : g()", 0, lambda at:
+        Node(CONDITIONAL, EFFECT, 0, 0,
+             Node(UNARY, NO_STRING, NOT, 0, name("a", at("a"))),
+             call("f", at("f()")),
+             Node(CONDITIONAL, EFFECT, 0, at("b"),
+                  name("b", at("b")),
+                  leaf(NO_STRING, at("1")),
+                  call("g", at("g()"))))),
+
+    # 22: refused by 6, by both operations for the `??`. The parenthesis
+    # before it is part of the or, and of the conditional.
+    ("(a ?? b) || c ? d : e", 0, lambda at:
+        Node(CONDITIONAL, 0, 0, 0,
+             Node(LOGICAL, 0, OR, 0,
+                  Node(LOGICAL, 0, NULLISH, at("a"),
+                       name("a", at("a")),
+                       name("b", at("b"))),
+                  name("c", at("c"))),
+             name("d", at("d")),
+             name("e", at("e")))),
 ]
 
 

@@ -10,8 +10,9 @@
  * and nothing else uses it during the call.
  *
  * What a function returns says whether it refused: see each. It has 64 bits, and all of them count. Of
- * uxt_reduce and uxt_list_effects the number of a refusal stands in the upper 32: where these are lost, as in an
- * int or through a function that is not declared, a refusal reads as a removable tree or as no effects.
+ * uxt_reduce, uxt_list_effects and uxt_list_effects_given the number of a refusal stands in the upper 32: where
+ * these are lost, as in an int or through a function that is not declared, a refusal reads as a removable tree or
+ * as no effects.
  */
 #ifndef UXT_H
 #define UXT_H
@@ -24,7 +25,7 @@ extern "C" {
 #endif
 
 /* Of the library. A tree file has a version of its own, which is 1. */
-#define UXT_VERSION "1.0.0"
+#define UXT_VERSION "1.1.0"
 
 /* Why a file, or what is lent, is refused; docs/FORMAT.md has each in full. 0 stands for no refusal. */
 #define UXT_REFUSED_MARK 1      /* under 8 bytes, or another mark */
@@ -32,11 +33,11 @@ extern "C" {
 #define UXT_REFUSED_SETTINGS 3  /* a setting that does not exist */
 #define UXT_REFUSED_COUNT 4     /* too many records, none, or another length than they take */
 #define UXT_REFUSED_RECORD 5    /* a kind that does not exist, or facts, a sub or a byte 3 that do not fit */
-#define UXT_REFUSED_KIND 6      /* a logical, a conditional or an assignment */
+#define UXT_REFUSED_KIND 6      /* an assignment, or a logical; a listing takes one that is an and or an or */
 #define UXT_REFUSED_SHAPE 7     /* child counts or sizes that do not fit, or a kind where it may not stand */
 #define UXT_REFUSED_DEPTH 8     /* too many levels */
 #define UXT_REFUSED_OUT 9       /* uxt_reduce: out is too short */
-#define UXT_REFUSED_ENTRIES 10  /* uxt_list_effects: too few entries */
+#define UXT_REFUSED_ENTRIES 10  /* uxt_list_effects and uxt_list_effects_given: too few entries */
 #define UXT_REFUSED_SCOPE 11    /* uxt_derived: a scope byte over 7 */
 #define UXT_REFUSED_ANCESTOR 12 /* uxt_derived: an ancestor byte over 4 */
 
@@ -75,8 +76,8 @@ const char *uxt_refusal_text(unsigned number);
 
 uint64_t uxt_check(const uint8_t *src, size_t src_len);
 
-/* What uxt_reduce and uxt_list_effects return holds the number of the refusal, 0 where there is none, and
- * the length or the count. */
+/* What uxt_reduce, uxt_list_effects and uxt_list_effects_given return holds the number of the refusal, 0 where
+ * there is none, and the length or the count. */
 #define UXT_NUMBER(answer) ((uint32_t)((answer) >> 32))
 #define UXT_LENGTH(answer) ((uint32_t)(answer))
 #define UXT_COUNT(answer) ((uint32_t)(answer))
@@ -94,7 +95,7 @@ uint64_t uxt_check(const uint8_t *src, size_t src_len);
  * records and 64 levels; with 9 where out_len is under the need.
  *
  * The file written has at most 2 * N - 1 records and at most one level more than src. uxt_list_effects takes
- * every such file; uxt_reduce only those within its own limits. */
+ * every such file; uxt_reduce only those within its own limits, and none with a logical. */
 #define UXT_MOST_OUT 63992
 
 uint64_t uxt_reduce(const uint8_t *src, size_t src_len, uint8_t *out, size_t out_len);
@@ -110,6 +111,8 @@ uint64_t uxt_reduce(const uint8_t *src, size_t src_len, uint8_t *out, size_t out
  * where entries_len is under twice the record count. Then all entries keep what they held. A file longer than
  * UXT_MOST_LISTED_SRC is refused; that is as long as one that uxt_reduce writes can be.
  *
+ * Every test of a conditional or a logical counts as no: uxt_list_effects_given takes those that count as yes.
+ *
  * An entry is place * 512 + kind * 2, plus 1 if it is a coercion. */
 #define UXT_MOST_LISTED_SRC 63992
 #define UXT_MOST_ENTRIES 7998
@@ -118,6 +121,17 @@ uint64_t uxt_reduce(const uint8_t *src, size_t src_len, uint8_t *out, size_t out
 #define UXT_COERCION(entry) ((int)((entry) & 1))
 
 uint64_t uxt_list_effects(const uint8_t *src, size_t src_len, uint64_t *entries, size_t entries_len);
+
+/* Lists the effects of the tree file src as uxt_list_effects does, but with tests that count as yes.
+ *
+ * The first child of a conditional or a logical is its test, which says what runs of the others (docs/FORMAT.md). It
+ * counts as yes where its place is one of the yes_len places in yes, and else as no. yes may have any length and
+ * any order, and a place may come twice; with yes_len 0 the answer is that of uxt_list_effects.
+ *
+ * src, entries, what is returned and written, and the refusals are those of uxt_list_effects. Each conditional or
+ * logical that is met takes at most one pass over yes. */
+uint64_t uxt_list_effects_given(const uint8_t *src, size_t src_len, const uint32_t *yes, size_t yes_len,
+                                uint64_t *entries, size_t entries_len);
 
 /* The Derived question: is `this` that of the constructor of a derived class?
  *

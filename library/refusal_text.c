@@ -16,7 +16,7 @@ const char *uxt_refusal_text(unsigned number) {
     case UXT_REFUSED_RECORD:
         return "a record's kind is not 1 to 22, or its facts or its sub do not fit its kind, or its byte 3 is not 0";
     case UXT_REFUSED_KIND:
-        return "a record is of kind 20, 21 or 22";
+        return "a record is of kind 22, or of kind 20 (List effects takes one with sub 1 or 2)";
     case UXT_REFUSED_SHAPE:
         return "a record's number of children does not fit its kind and sub, a subtree size does not fit the records, "
                "the root's size is not N, or a kind stands where it may not";

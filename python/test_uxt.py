@@ -16,6 +16,9 @@ from concurrent.futures import ThreadPoolExecutor
 import uxt
 
 ROOT = pathlib.Path(__file__).resolve().parent.parent
+sys.path.insert(0, str(ROOT / "tools"))
+import listings as by_hand  # noqa: E402
+
 THREADS = 8
 
 
@@ -86,6 +89,12 @@ def listings():
         yield Case(f"listings {i}", uxt.list_effects, (file,), due)
 
 
+def given():
+    """Lists under yes places, which no program is lent: worked out by hand, beside the cases of the program `listings`."""
+    for name, root, yes, effects in by_hand.given():
+        yield Case(f"given: {name}", uxt.list_effects, (by_hand.tree_file(root), yes), [effect(text) for text in effects.split()])
+
+
 def reductions():
     """Room is what the module lends, so that where too little was lent only the check can be held to what is stored."""
     files, text = stored("reductions")
@@ -138,7 +147,7 @@ def examples():
         yield Case(name, uxt.check, (file,), due if isinstance(due, tuple) else None)
 
 
-GROUPS = (edges, listings, reductions, derived_rows, fixed_list, examples)
+GROUPS = (edges, listings, given, reductions, derived_rows, fixed_list, examples)
 
 
 # ---- Running them
@@ -187,6 +196,20 @@ def other_arguments():
         raises(TypeError, uxt.derived, b"", wrong)
 
 
+def yes_places():
+    """Any numbers that can be places, in anything that gives them one by one; no other number is cut to one."""
+    file = (ROOT / "examples/conditional.uxt").read_bytes()
+    no, yes = [uxt.Effect(1, 16, False), uxt.Effect(12, 16, False)], [uxt.Effect(1, 16, False)]
+    for places in ((), [], [1, 7, 11], iter([2 ** 32 - 1]), b"", range(1, 5)):
+        assert uxt.list_effects(file, places) == uxt.list_effects(file) == no
+    for places in ((0,), [5, 0], {0, 1}, iter([0, 0]), b"\0", range(10_000)):
+        assert uxt.list_effects(file, yes=places) == yes
+    for wrong in ([2 ** 32], [-1], [0, 2 ** 64]):
+        raises(OverflowError, uxt.list_effects, file, wrong)
+    for wrong in (5, None, [0.0], ["0"]):
+        raises(TypeError, uxt.list_effects, file, wrong)
+
+
 def refusal():
     """It has the number and the words, and goes from process to process."""
     error = raises(uxt.Refused, uxt.check, b"")
@@ -211,7 +234,7 @@ def no_library():
 def main():
     groups = {group.__name__: list(group()) for group in GROUPS}
     cases = [case for group in groups.values() for case in group]
-    for test in (other_arguments, refusal, said_once, no_library):
+    for test in (other_arguments, yes_places, refusal, said_once, no_library):
         test()
     found = different(cases) + from_threads(cases)
     for case in found[:10]:

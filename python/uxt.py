@@ -7,12 +7,13 @@ Each function takes any bytes-like object and keeps nothing. Calls from several 
 interpreter's lock, and every call has buffers of its own. docs/FORMAT.md describes the tree file.
 """
 
+import array
 import ctypes
 import os
 import pathlib
 import typing
 
-VERSION = "1.0.0"
+VERSION = "1.1.0"
 
 _BUILT = pathlib.Path(__file__).resolve().parent.parent / "target/library/libuxt.so.1"
 _MOST_REDUCED, _MOST_LISTED = 2000, 3999  # records that Reduce and List effects take
@@ -52,11 +53,14 @@ def reduce(data):
     return out[:length]
 
 
-def list_effects(data):
-    """The effects of a tree file's expression, as a list in ECMA-262's order."""
-    data = _bytes(data)
+def list_effects(data, yes=()):
+    """The effects of a tree file's expression, as a list in ECMA-262's order.
+
+    `yes` has the places of the tests that count as yes, numbers from 0 to 2^32 - 1 in any order; all other tests count as no.
+    """
+    data, places = _bytes(data), _places(yes)
     entries = (ctypes.c_uint64 * (2 * min(_records(data), _MOST_LISTED)))()
-    count = _value(_list_effects(data, len(data), entries, len(entries)))
+    count = _value(_list_effects_given(data, len(data), places, len(places), entries, len(entries)))
     return [Effect(entry >> 9, entry >> 1 & 255, bool(entry & 1)) for entry in entries[:count]]
 
 
@@ -71,6 +75,12 @@ def derived(scopes, ancestors):
 def _bytes(data):
     """What no one changes during the call. Of a number, bytes() would make zeros; this refuses it."""
     return data if isinstance(data, bytes) else memoryview(data).tobytes()
+
+
+def _places(yes):
+    """An array of C. ctypes would cut a number that is too large; the array raises OverflowError."""
+    places = array.array("I", [*yes])
+    return (ctypes.c_uint32 * len(places))(*places)
 
 
 def _records(data):
@@ -107,8 +117,9 @@ def _function(name, result, *arguments):
 _library = _load()
 _u64, _size = ctypes.c_uint64, ctypes.c_size_t
 _in, _out, _entries = ctypes.c_char_p, ctypes.POINTER(ctypes.c_char), ctypes.POINTER(ctypes.c_uint64)
+_yes = ctypes.POINTER(ctypes.c_uint32)
 _check = _function("uxt_check", _u64, _in, _size)
 _reduce = _function("uxt_reduce", _u64, _in, _size, _out, _size)
-_list_effects = _function("uxt_list_effects", _u64, _in, _size, _entries, _size)
+_list_effects_given = _function("uxt_list_effects_given", _u64, _in, _size, _yes, _size, _entries, _size)
 _derived = _function("uxt_derived", _u64, _in, _size, _in, _size)
 _refusal_text = _function("uxt_refusal_text", ctypes.c_char_p, ctypes.c_uint)

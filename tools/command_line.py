@@ -68,7 +68,9 @@ def statuses():
     is_answer("refused", (1, b"refused 7\n", b""), "columns", EXAMPLES / "broken.uxt")
     is_answer("refused, in words", (1, b"refused 7\n", b""), "columns", "--words", EXAMPLES / "broken.uxt")
     is_answer("refused by reduce", (1, b"", b"refused 6\n"), "reduce", EXAMPLES / "logical.uxt")
-    is_answer("refused by show", (1, b"refused 6\n", b""), "show", EXAMPLES / "logical.uxt")
+    is_answer("refused by show", (1, b"refused 7\n", b""), "show", EXAMPLES / "broken.uxt")
+    shown = b"uxt 1\nlogical and text 0 place 0\n  identifier text 1 place 0\n  identifier text 2 place 5\n"
+    is_answer("shown, though reduce refuses it", (0, shown, b""), "show", EXAMPLES / "logical.uxt")
     is_answer("refused by validate", (1, b"refused 1\n", b""), "validate", data=b"")
     for file, status in (("columns.uxt", 0), ("broken.uxt", 1)):
         given, out, err = uxt("explain", EXAMPLES / file)

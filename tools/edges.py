@@ -24,6 +24,8 @@ from reader import (ARRAY, ARROW, ASSIGNMENT, BINARY, CALL, CHILDREN, CLASS, CON
                     IDENTIFIER, KIND, LIST_EFFECTS, LITERAL, LOGICAL, NEW, OBJECT, OTHER_LEAF, PROPERTY, REDUCE, SEQUENCE,
                     SETTINGS, SIZE, SPREAD, SUB, TEMPLATE, THIS, UNARY, VERSION, ZERO, answer, of, u16)
 
+NULLISH, AND, OR = 0, 1, 2  # subs of a logical
+
 # ---- Writing tree files, whole and broken
 
 
@@ -71,6 +73,16 @@ def void(argument):
     return Node(UNARY, argument, sub=1)
 
 
+def conditional(test=None, consequent=None, alternate=None):
+    """An identifier where no node is given."""
+    return Node(CONDITIONAL, *[part or identifier() for part in (test, consequent, alternate)])
+
+
+def logical(left=None, right=None, sub=AND):
+    """An identifier where no node is given."""
+    return Node(LOGICAL, left or identifier(), right or identifier(), sub=sub)
+
+
 def chain(depth, wrap=void, inner=identifier):
     node = inner()
     for _ in range(depth - 1):
@@ -81,8 +93,8 @@ def chain(depth, wrap=void, inner=identifier):
 def sample(kind, sub=None, facts=None, zero=0):
     """A node of the kind with as many children as it must have, and no more."""
     if sub is None:
-        sub = {UNARY: 1, BINARY: 1, ELEMENT: 1}.get(kind, 0)
-    count = {SPREAD: 1, UNARY: 1, BINARY: 2, CALL: 1, NEW: 1}.get(kind, 0)
+        sub = {UNARY: 1, BINARY: 1, ELEMENT: 1, LOGICAL: AND}.get(kind, 0)
+    count = {SPREAD: 1, UNARY: 1, BINARY: 2, CALL: 1, NEW: 1, LOGICAL: 2, CONDITIONAL: 3}.get(kind, 0)
     if kind == PROPERTY:
         count = 2 if sub == 1 else 1
     if kind == CLASS:
@@ -177,8 +189,8 @@ def record_limits(c):
 def kinds(c):
     """One record of each kind, facts and sub 0 and no children."""
     by_hand = {kind: "0/1" for kind in (2, 3, 4, 5, 6, 7, 10, 12, 13, 18)}
-    by_hand.update({kind: 7 for kind in (8, 9, 11, 16, 17)})
-    by_hand.update({kind: 6 for kind in (20, 21, 22)})  # the rest is 5
+    by_hand.update({kind: 7 for kind in (8, 9, 11, 16, 17, 21)})
+    by_hand.update({kind: 6 for kind in (20, 22)})  # the rest is 5
     for kind in range(256):
         c.edge(f"kind {kind} alone", tree_file(Node(kind, facts=0)), by_hand.get(kind, 5))
 
@@ -232,7 +244,8 @@ def accepted(c):
             ("class, decorated, with heritage alone", Node(CLASS, one, sub=3), 2),
             ("class of three elements", Node(CLASS, method, method, method), 4),
             ("class with heritage and two elements", Node(CLASS, one, method, method, sub=2), 4),
-            ("class with a class as heritage", Node(CLASS, Node(CLASS), sub=2), 2)):
+            ("class with a class as heritage", Node(CLASS, Node(CLASS), sub=2), 2),
+            ("conditional", conditional(), 4)):
         c.edge(f"accepted: {name}", tree_file(root), f"0/{count}")
 
 
@@ -249,11 +262,19 @@ FACTS_TRIED = (0, 1, 2, 4, 6, 7, 8, 10, 12, 16, 18, 19, 20, 22, 24, 26, 27, 30, 
                115, 127, 128, 146, 160, 192, 224, 243, 255)
 
 
-def accepted_as(kind, root):
-    """What a file of the accepted node gets: kinds 20 to 22 are refused next."""
-    if kind in (LOGICAL, CONDITIONAL, ASSIGNMENT):
-        return 6
-    return f"0/{u16(tree_file(root), COUNT)}"
+def nodes(root):
+    yield root
+    for child in root.children:
+        yield from nodes(child)
+
+
+def by_hand(root, listed=None):
+    """What a file gets whose records pass 5: 6 where one is left out; else the number, or where none is given, that it is taken."""
+    logicals = [node.sub for node in nodes(root) if node.kind == LOGICAL]
+    if NULLISH in logicals or any(node.kind == ASSIGNMENT for node in nodes(root)):
+        return 6, 6
+    listed = listed or f"0/{len(list(nodes(root)))}"
+    return (6 if logicals else listed), listed
 
 
 def facts(c):
@@ -261,11 +282,10 @@ def facts(c):
         allowed = FACTS_BY_HAND.get(kind, FACTS_OF_MOST)
         for value in range(256) if kind in (LITERAL, IDENTIFIER, CALL) else FACTS_TRIED:
             root = around(sample(kind, facts=value))
-            c.edge(f"kind {kind}, facts {value}", tree_file(root),
-                   accepted_as(kind, root) if value in allowed else 5)
+            c.edge(f"kind {kind}, facts {value}", tree_file(root), *by_hand(root) if value in allowed else (5,))
 
 
-SUBS_BY_HAND = {PROPERTY: {0, 1}, UNARY: {1, 2, 3, 4}, BINARY: {1, 2, 3}, CLASS: {0, 1, 2, 3}}
+SUBS_BY_HAND = {PROPERTY: {0, 1}, UNARY: {1, 2, 3, 4}, BINARY: {1, 2, 3}, CLASS: {0, 1, 2, 3}, LOGICAL: {0, 1, 2}}
 ELEMENT_SUBS_BY_HAND = {
     1, 9, 17, 25, 33, 41, 49, 57,  # method: static, computed key, decorated
     2, 10, 18, 26, 34, 42, 50, 58, 66, 74, 82, 90, 98, 106, 114, 122,  # property: the same and value
@@ -282,11 +302,10 @@ def subs(c):
         for sub in (0, 1, 2, 3, 4, 5, 6, 7, 8, 16, 32, 64, 128, 129, 255):
             root = around(sample(kind, sub=sub))
             c.edge(f"kind {kind}, sub {sub}", tree_file(root),
-                   accepted_as(kind, root) if sub in SUBS_BY_HAND.get(kind, {0}) else 5)
+                   *by_hand(root) if sub in SUBS_BY_HAND.get(kind, {0}) else (5,))
     for sub in range(256):
         root = around(sample(ELEMENT, sub=sub))
-        c.edge(f"class element, sub {sub}", tree_file(root),
-               accepted_as(ELEMENT, root) if sub in ELEMENT_SUBS_BY_HAND else 5)
+        c.edge(f"class element, sub {sub}", tree_file(root), *by_hand(root) if sub in ELEMENT_SUBS_BY_HAND else (5,))
 
 
 def zero_byte(c):
@@ -370,37 +389,47 @@ def shapes(c):
            with_u16(tree_file(void(identifier())) + GOOD[8:], COUNT, 3), 7)
 
 
-EXPRESSIONS_BY_HAND = {1, 2, 3, 4, 5, 6, 7, 10, 12, 13, 14, 15, 16, 17, 18}
+EXPRESSIONS_BY_HAND = {1, 2, 3, 4, 5, 6, 7, 10, 12, 13, 14, 15, 16, 17, 18, 20, 21}
+
+
+# Each place where an expression can stand, and the kinds that may stand there too.
+POSITIONS = (
+    ("the root", lambda x: x, ()),
+    ("in an array", lambda x: Node(ARRAY, identifier(), x), (8, 9)),
+    ("in a spread", lambda x: Node(ARRAY, Node(SPREAD, x)), ()),
+    ("in a template", lambda x: Node(TEMPLATE, identifier(), x), ()),
+    ("in a sequence", lambda x: Node(SEQUENCE, x, identifier()), ()),
+    ("under void", void, ()),
+    ("under typeof", lambda x: Node(UNARY, x, sub=3), ()),
+    ("left in a comparison", lambda x: Node(BINARY, x, identifier(), sub=1), ()),
+    ("right in an addition", lambda x: Node(BINARY, identifier(), x, sub=2), ()),
+    ("as callee of a call", lambda x: Node(CALL, x, identifier()), ()),
+    ("as callee of a new", lambda x: Node(NEW, x), ()),
+    ("as first argument of a call", lambda x: Node(CALL, identifier(), x, identifier()), (9,)),
+    ("as last argument of a new", lambda x: Node(NEW, identifier(), identifier(), x), (9,)),
+    ("as a property's only child", lambda x: Node(OBJECT, Node(PROPERTY, x)), ()),
+    ("as a property's key", lambda x: Node(OBJECT, Node(PROPERTY, x, identifier(), sub=1)), ()),
+    ("as a property's value", lambda x: Node(OBJECT, Node(PROPERTY, identifier(), x, sub=1)), ()),
+    ("as a class's heritage", lambda x: Node(CLASS, x, Node(ELEMENT, sub=1), sub=2), ()),
+    ("as an element's key", lambda x: Node(CLASS, Node(ELEMENT, x, sub=17)), ()),
+    ("as an element's value", lambda x: Node(CLASS, Node(ELEMENT, identifier(), x, sub=82)), ()),
+    ("as a static value", lambda x: Node(CLASS, Node(ELEMENT, x, sub=74)), ()),
+    ("as a test", lambda x: conditional(test=x), ()),
+    ("as a consequent", lambda x: conditional(consequent=x), ()),
+    ("as an alternate", lambda x: conditional(alternate=x), ()),
+    ("left in an and", lambda x: logical(left=x), ()),
+    ("right in an or", lambda x: logical(right=x, sub=OR), ()),
+)
 
 
 def standing(c):
     """Each kind in each place where a record can stand."""
-    one, method = identifier(), Node(ELEMENT, sub=1)
-    for place, build, also in (
-            ("the root", lambda x: x, None),
-            ("in an array", lambda x: Node(ARRAY, one, x), {8, 9}),
-            ("in a spread", lambda x: Node(ARRAY, Node(SPREAD, x)), None),
-            ("in a template", lambda x: Node(TEMPLATE, one, x), None),
-            ("in a sequence", lambda x: Node(SEQUENCE, x, one), None),
-            ("under void", void, None),
-            ("under typeof", lambda x: Node(UNARY, x, sub=3), None),
-            ("left in a comparison", lambda x: Node(BINARY, x, one, sub=1), None),
-            ("right in an addition", lambda x: Node(BINARY, one, x, sub=2), None),
-            ("as callee of a call", lambda x: Node(CALL, x, one), None),
-            ("as callee of a new", lambda x: Node(NEW, x), None),
-            ("as first argument of a call", lambda x: Node(CALL, one, x, one), {9}),
-            ("as last argument of a new", lambda x: Node(NEW, one, one, x), {9}),
-            ("as a property's only child", lambda x: Node(OBJECT, Node(PROPERTY, x)), None),
-            ("as a property's key", lambda x: Node(OBJECT, Node(PROPERTY, x, one, sub=1)), None),
-            ("as a property's value", lambda x: Node(OBJECT, Node(PROPERTY, one, x, sub=1)), None),
-            ("as a class's heritage", lambda x: Node(CLASS, x, method, sub=2), None),
-            ("as an element's key", lambda x: Node(CLASS, Node(ELEMENT, x, sub=17)), None),
-            ("as an element's value", lambda x: Node(CLASS, Node(ELEMENT, one, x, sub=82)), None)):
+    for place, build, also in POSITIONS:
         for kind in range(1, 23):
             root = build(sample(kind))
-            stands = kind in EXPRESSIONS_BY_HAND or kind in (also or ())
-            c.edge(f"kind {kind} {place}", tree_file(root),
-                   6 if kind >= 20 else accepted_as(kind, root) if stands else 7)
+            stands = kind in EXPRESSIONS_BY_HAND or kind in also
+            c.edge(f"kind {kind} {place}", tree_file(root), *by_hand(root, None if stands else 7))
+    one, method = identifier(), Node(ELEMENT, sub=1)
     for place, build, only in (
             ("in an object", lambda x: Node(OBJECT, x), {9, 11}),
             ("in an object after a spread", lambda x: Node(OBJECT, Node(SPREAD, one), x), {9, 11}),
@@ -409,8 +438,34 @@ def standing(c):
             ("in a class after its heritage", lambda x: Node(CLASS, one, x, sub=2), {19})):
         for kind in range(1, 23):
             root = build(sample(kind))
-            c.edge(f"kind {kind} {place}", tree_file(root),
-                   6 if kind >= 20 else accepted_as(kind, root) if kind in only else 7)
+            c.edge(f"kind {kind} {place}", tree_file(root), *by_hand(root, None if kind in only else 7))
+
+
+def conditionals(c):
+    """Conditionals and logicals under each other, in every place; and what has other children than they take."""
+    one = identifier()
+    for place, build, _ in POSITIONS:
+        root = build(conditional(*[conditional()] * 3))
+        c.edge(f"a conditional of three conditionals, {place}", tree_file(root), *by_hand(root))
+    for name, node in (("ands", logical()), ("ors", logical(sub=OR)), ("??", logical(sub=NULLISH))):
+        root = conditional(node, node, node)
+        c.edge(f"a conditional of three {name}", tree_file(root), *by_hand(root))
+        root = logical(node, conditional(test=node))
+        c.edge(f"an and of two {name}, one of them a test", tree_file(root), *by_hand(root))
+    for count in (0, 1, 2, 4, 5):
+        c.edge(f"conditional of {count}", tree_file(Node(CONDITIONAL, *[one] * count)), 7)
+    c.edge("conditional, 256 children more counted", plus(tree_file(conditional()), of(0, CHILDREN), 256), 7)
+    for sub, listed in ((NULLISH, 6), (AND, 7), (OR, 7)):
+        for count in (0, 1, 3):
+            c.edge(f"logical, sub {sub}, of {count}", tree_file(Node(LOGICAL, *[one] * count, sub=sub)), 6, listed)
+    c.edge("an and beside a ??", tree_file(Node(SEQUENCE, logical(), logical(sub=NULLISH))), 6)
+    c.edge("an and beside an assignment", tree_file(Node(SEQUENCE, logical(), Node(ASSIGNMENT, one))), 6)
+    c.edge("an and beside a conditional of two", tree_file(Node(SEQUENCE, logical(), Node(CONDITIONAL, one, one))), 6, 7)
+    c.edge("an and beside a logical of sub 3", tree_file(Node(SEQUENCE, logical(), logical(sub=3))), 5)
+    c.edge("an and at depth 66", tree_file(chain(65, inner=logical)), 6, 8)
+    for field, name, value in ((FACTS, "facts", 32), (FACTS, "facts", 24), (SUB, "sub", 3), (ZERO, "byte 3", 1)):
+        for root in (conditional(), logical()):
+            c.edge(f"kind {root.kind}, {name} {value}", with_byte(tree_file(root), of(0, field), value), 5)
 
 
 def depths(c):
@@ -451,6 +506,17 @@ def depths(c):
            tree_file(Node(SEQUENCE, chain(40), chain(40))), "0/81")
 
 
+def conditional_depths(c):
+    for name, wrap in (("tests", lambda x: conditional(test=x)), ("consequents", lambda x: conditional(consequent=x)),
+                       ("alternates", lambda x: conditional(alternate=x))):
+        c.edge(f"depth 64 over {name}", tree_file(chain(64, wrap)), "0/190")
+        c.edge(f"depth 65 over {name}", tree_file(chain(65, wrap)), 8, "0/193")
+        c.edge(f"depth 66 over {name}", tree_file(chain(66, wrap)), 8)
+    for name, wrap in (("ands", lambda x: logical(left=x)), ("ors", lambda x: logical(right=x, sub=OR))):
+        c.edge(f"depth 65 over {name}", tree_file(chain(65, wrap)), 6, "0/129")
+        c.edge(f"depth 66 over {name}", tree_file(chain(66, wrap)), 6, 8)
+
+
 def faulty(faults):
     """A file with each of the faults, named by their numbers."""
     data = tree_file(chain(66 if 8 in faults else 3))
@@ -486,13 +552,16 @@ def several_faults(c):
     for i in (0, 2, 4):
         for j in (0, 2, 4):
             field = with_byte(five, of(i, ZERO), 1)
-            logical = with_byte(five, of(i, KIND), LOGICAL)
+            nullish = with_byte(five, of(i, KIND), LOGICAL)
             c.edge(f"5 at record {i}, 6 at record {j}", with_byte(field, of(j, KIND), LOGICAL), 5)
             c.edge(f"5 at record {i}, 7 at record {j}", plus(field, of(j, SIZE), 1), 5)
-            c.edge(f"6 at record {i}, 7 at record {j}", plus(logical, of(j, SIZE), 1), 6)
-    for kind in (LOGICAL, CONDITIONAL, ASSIGNMENT):
+            c.edge(f"6 at record {i}, 7 at record {j}", plus(nullish, of(j, SIZE), 1), 6)
+            c.edge(f"an and without children at record {i}, 7 at record {j}",
+                   plus(with_byte(nullish, of(i, SUB), AND), of(j, SIZE), 1), 6, 7)
+    for kind in (LOGICAL, ASSIGNMENT):
         c.edge(f"kind {kind} with three children", tree_file(Node(kind, *[identifier()] * 3)), 6)
         c.edge(f"kind {kind} at depth 70", tree_file(chain(70, inner=lambda k=kind: Node(k))), 6)
+    c.edge("a conditional without children at depth 70", tree_file(chain(70, inner=lambda: Node(CONDITIONAL))), 7)
     for depth in (65, 66):
         c.edge(f"an elision under void at depth {depth}",
                tree_file(chain(depth, inner=lambda: Node(ELISION))), 7)
@@ -502,8 +571,8 @@ def several_faults(c):
 
 
 def changed_bytes(c):
-    """Two good files with each byte of the header, and each before the text, one more and one less."""
-    for name in ("columns", "class"):
+    """Three files with each byte of the header, and each before the text, one more and one less."""
+    for name in ("columns", "class", "logical"):
         data = EXAMPLES[name]
         for at, byte in enumerate(data):
             for change in (1, -1) if at % 16 >= 8 or at < 8 else ():
@@ -513,7 +582,7 @@ def changed_bytes(c):
 def all_cases():
     c = Cases()
     for group in (lengths, header, counts, record_limits, kinds, accepted, facts, subs, zero_byte,
-                  child_counts, shapes, standing, depths, several_faults, changed_bytes):
+                  child_counts, shapes, standing, conditionals, depths, conditional_depths, several_faults, changed_bytes):
         group(c)
     return c.cases
 
@@ -542,16 +611,16 @@ def class_with_elements():
                 facts=1, sub=2, place=0)
 
 
-def logical():
+def logical_and():
     """a && b"""
-    return Node(LOGICAL, Node(IDENTIFIER, text=1, place=0), Node(IDENTIFIER, text=2, place=5))
+    return Node(LOGICAL, Node(IDENTIFIER, text=1, place=0), Node(IDENTIFIER, text=2, place=5), sub=AND)
 
 
 EXAMPLES = {
     "broken": plus(tree_file(columns()), of(2, SIZE), 1),
     "class": tree_file(class_with_elements(), settings=1),
     "columns": tree_file(columns()),
-    "logical": tree_file(logical()),
+    "logical": tree_file(logical_and()),
 }
 
 

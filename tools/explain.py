@@ -21,8 +21,9 @@ def explanation(data, limits=REDUCE):
     found = fault(data, limits)
     number = found.number if found else 0
     lines = refused(data, found) if found else accepted(data)
-    if number in (4, 8) and fault(data, LIST_EFFECTS) is None:
-        lines.append("List effects takes it: at most {} records, and depth {}.".format(*LIST_EFFECTS))
+    if number in (4, 6, 8) and fault(data, LIST_EFFECTS) is None:
+        takes = "List effects takes it: at most {} records, depth {}, and logical nodes of sub 1 and 2."
+        lines.append(takes.format(*LIST_EFFECTS))
     return number, "".join(line + "\n" for line in lines + [READ_BY])
 
 

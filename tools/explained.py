@@ -18,7 +18,7 @@ import sys
 import explanations
 import programs
 from explain import explanation
-from reader import FIELDS, IDENTIFIER, LIST_EFFECTS, REDUCE, UNARY, answer, fault
+from reader import FIELDS, IDENTIFIER, LIST_EFFECTS, REDUCE, UNARY, Limits, answer, fault
 from sentences import MEANS, ROWS, RULES
 
 ROOT = pathlib.Path(__file__).resolve().parent.parent
@@ -120,8 +120,8 @@ def check_deep():
     count = 65535
     unaries = b"".join(FIELDS.pack(UNARY, 0, 1, 0, 1, size) for size in range(count, 1, -1))
     data = b"UXT\1\0\0" + count.to_bytes(2, "little") + unaries + FIELDS.pack(IDENTIFIER, 0, 0, 0, 0, 1)
-    require(answer(data, (count, count)) == f"0/{count}", f"depth {count} is refused")
-    require(fault(data, (count, count - 1)).record == count - 1, "the last record is not named for its depth")
+    require(answer(data, Limits(count, count, False)) == f"0/{count}", f"depth {count} is refused")
+    require(fault(data, Limits(count, count - 1, False)).record == count - 1, "the last record is not named for its depth")
 
 
 # ---- The files of programs.py
@@ -176,7 +176,7 @@ def main(words):
         check_stored()
         check_programs()
         check_deep()
-        for name in ("columns", "class"):
+        for name in ("columns", "class", "conditional"):
             check_changed((ROOT / f"examples/{name}.uxt").read_bytes())
     elif words == ["damaged"]:
         check_damaged(sys.stdin.buffer.read())

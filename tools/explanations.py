@@ -3,9 +3,9 @@
 
 import sys
 
-from edges import (ARRAY, CALL, CHILDREN, CLASS, CONDITIONAL, COUNT, ELEMENT, ELISION, EXAMPLES, FACTS, IDENTIFIER, KIND, LITERAL,
-                   LOGICAL, SEQUENCE, SETTINGS, SIZE, SPREAD, SUB, TEMPLATE, UNARY, VERSION, ZERO, Node, chain, flat, identifier,
-                   of, plus, tree_file, with_byte, with_u16)
+from edges import (ARRAY, ASSIGNMENT, CALL, CHILDREN, CLASS, CONDITIONAL, COUNT, ELEMENT, ELISION, EXAMPLES, FACTS, IDENTIFIER,
+                   KIND, LITERAL, NULLISH, SEQUENCE, SETTINGS, SIZE, SPREAD, SUB, TEMPLATE, UNARY, VERSION, ZERO, Node, chain,
+                   conditional, flat, identifier, logical, of, plus, tree_file, with_byte, with_u16)
 from explain import explanation
 
 COLUMNS, ELEMENTS = EXAMPLES["columns"], EXAMPLES["class"]
@@ -29,13 +29,15 @@ FILES = (
     ("5: a string literal, flagged", tree_file(Node(LITERAL, facts=19))),
     ("5: a call with a sub", with_byte(COLUMNS, of(2, SUB), 1)),
     ("5: a unary without a sub", tree_file(Node(UNARY, identifier(), sub=0))),
+    ("5: a logical of sub 3", tree_file(logical(sub=3))),
     ("5: an element of form 6", with_byte(ELEMENTS, of(2, SUB), 22)),
     ("5: a static block with bit 3", with_byte(ELEMENTS, of(7, SUB), 12)),
     ("5: a method with a value", with_byte(ELEMENTS, of(2, SUB), 81)),
     ("5: byte 3", with_byte(COLUMNS, of(3, ZERO), 255)),
     ("5: byte 3 of two records, and in the first one facts and sub", FOUR_FAULTS),
     ("6: a && b", EXAMPLES["logical"]),
-    ("6: two records", tree_file(Node(SEQUENCE, Node(CONDITIONAL), Node(LOGICAL)))),
+    ("6: a ?? b", tree_file(logical(sub=NULLISH))),
+    ("6: two records", tree_file(Node(SEQUENCE, conditional(test=Node(ASSIGNMENT)), logical()))),
     ("7: a size, one more", EXAMPLES["broken"]),
     ("7: two sizes, one more each", plus(EXAMPLES["broken"], of(4, SIZE), 1)),
     ("7: the root's size, one less", plus(COLUMNS, of(0, SIZE), -1)),
@@ -49,6 +51,8 @@ FILES = (
      tree_file(Node(SEQUENCE, Node(ELISION), Node(IDENTIFIER, identifier())))),
     ("7: a call without a callee", tree_file(Node(CALL))),
     ("7: an element without its key", tree_file(Node(CLASS, Node(ELEMENT, sub=17)))),
+    ("7: a conditional of two", tree_file(Node(CONDITIONAL, identifier(), identifier()))),
+    ("7: a spread as consequent", tree_file(conditional(consequent=Node(SPREAD, identifier())))),
     ("7: a spread as root", tree_file(Node(SPREAD, identifier()))),
     ("7: an elision in a call", tree_file(Node(ARRAY, Node(CALL, identifier(), Node(ELISION))))),
     ("7: an array made a template", with_byte(COLUMNS, of(0, KIND), TEMPLATE)),

@@ -2,25 +2,26 @@
 """docs/FORMAT.md, held to the library by the Python module: `format_page.py` alone.
 
 Its tables of records give the lists and the answers that stand behind them. The rows of "More lists" give the kinds and the
-coercions of their lists, and what they say is left; a row has no places of its own. Each shape of the tables from JavaScript to
-records is taken, or refused by 6 where it is of a kind that is left out. Each link leads to a heading.
+coercions of their lists, and what they say is left; a row has no places of its own, and its nodes are all at 0. Each shape of the
+tables from JavaScript to records is taken, or refused by 6 where an operation does not take it. Each link leads to a heading.
 """
 
 import pathlib
 import re
 import sys
 
-from edges import ARRAY, ASSIGNMENT, CLASS, ELEMENT, IDENTIFIER, LITERAL, LOGICAL, OBJECT, PROPERTY, SPREAD, Node, tree_file
+from edges import (ARRAY, ASSIGNMENT, CLASS, ELEMENT, IDENTIFIER, LITERAL, LOGICAL, NULLISH, OBJECT, PROPERTY, SPREAD, Node,
+                   tree_file)
 
 ROOT = pathlib.Path(__file__).resolve().parent.parent
 sys.path.insert(0, str(ROOT / "python"))
 import uxt  # noqa: E402
 
 PAGE = (ROOT / "docs/FORMAT.md").read_text(encoding="utf-8")
-SETTINGS = {"": 0, "annotations": 1, "tree-shake-only": 2, "derived": 4}
+SETTINGS = {"": (0, ()), "annotations": (1, ()), "tree-shake-only": (2, ()), "derived": (4, ()), "yes": (0, (0,))}
 EFFECT = re.compile(r"`(\d+)/(\d+)/([01])`")
 SHAPE = re.compile(r"`(\d+(?:/\d+)?(?:\[[^`]*\])?)`")
-LEFT_OUT = range(LOGICAL, ASSIGNMENT + 1)
+UNDER = re.compile(r"\. With the yes place (\d+): ")
 
 
 def require(same, what):
@@ -38,10 +39,10 @@ def rows(text):
     return [cells for cells, after in zip(lines, lines[1:] + [[]]) if cells and "---" not in cells[:1] + after[:1]]
 
 
-def listed(data):
+def listed(data, yes=()):
     """The effects as the page writes them, or the refusal's number."""
     try:
-        return [tuple(map(int, effect)) for effect in uxt.list_effects(data)]
+        return [tuple(map(int, effect)) for effect in uxt.list_effects(data, yes)]
     except uxt.Refused as refused:
         return refused.number
 
@@ -72,20 +73,28 @@ def tables():
         yield data, table[1]
 
 
+def lists(behind):
+    """The yes places and the list, of each list that a line gives."""
+    first, *more = UNDER.split(behind)
+    return [((), effects(first)), *[((int(place),), effects(text)) for place, text in zip(more[::2], more[1::2])]]
+
+
 def check_tables():
-    """A table is followed by its list, and by what is left of it where that is another tree."""
+    """A table is followed by its lists, and by what is left of it where that is another tree."""
     waiting, count = None, 0
     for data, behind in tables():
         count += 1
         if waiting is not None:
             before, expected = waiting
             require(left(before) == data, f"table {count} is not what is left of the one before")
-            require(listed(data) == expected, f"table {count} has another list than the one before")
+            for yes, due in expected:
+                require(listed(data, yes) == due, f"table {count} has another list than the one before, yes {yes}")
             waiting = None
             continue
-        require(listed(data) == effects(behind), f"table {count}: the list is {listed(data)}")
+        for yes, due in lists(behind):
+            require(listed(data, yes) == due, f"table {count}, yes {yes}: the list is {listed(data, yes)}")
         if behind.endswith("What is left:"):
-            waiting = data, effects(behind)
+            waiting = data, lists(behind)
         else:
             require(left(data) == data, f"table {count} does not stay as it is")
     return count
@@ -132,6 +141,14 @@ def around(node):
     return node if parent is None else Node(parent, node)
 
 
+def check_shape(shape, node):
+    """Which operation takes it goes by the root: under it are kinds that both take, or the same again."""
+    data = tree_file(around(node))
+    no_one = node.kind == ASSIGNMENT or node.kind == LOGICAL and node.sub == NULLISH
+    for answer, refused in ((listed(data), no_one), (left(data), no_one or node.kind == LOGICAL)):
+        require(answer == 6 if refused else not isinstance(answer, int), f"{shape}, facts {node.facts}: {answer}")
+
+
 def check_shapes():
     count = 0
     for cells in rows(section("Expressions", "Other leaves")):
@@ -139,8 +156,7 @@ def check_shapes():
             node = node_of(shape)
             for facts in re.findall(r"\d+", cells[2]) if len(cells) == 4 else [18 if node.kind == LITERAL else 0]:
                 node.facts = int(facts)
-                answer = listed(tree_file(around(node)))
-                require(answer == 6 if node.kind in LEFT_OUT else isinstance(answer, list), f"{shape}, facts {facts}: {answer}")
+                check_shape(shape, node)
                 count += 1
     return count
 
@@ -163,13 +179,15 @@ def check_lists():
     count = 0
     for cells in rows(section("More lists", "What is left: made nodes")):
         expression, shape, facts, settings, list_, stays = cells
-        data = tree_file(with_facts(node_of(shape.strip("`")), map(int, facts.split(", "))), settings=SETTINGS[settings])
-        answer = listed(data)
+        on, yes = SETTINGS[settings]
+        data = tree_file(with_facts(node_of(shape.strip("`")), map(int, facts.split(", "))), settings=on)
+        answer = listed(data, yes)
         told = [effect[1:] for effect in effects(list_)]
         require([effect[1:] for effect in answer] == told if isinstance(answer, list) else list_ == f"refused {answer}",
                 f"{expression}: the list is {answer}")
         rest = {"all of it": data, "nothing": b"", "refused 6": 6}.get(stays)
-        require(left(data) == rest if rest is not None else listed(left(data)) == answer, f"{expression}: left is {left(data)!r}")
+        stayed = left(data)
+        require(stayed == rest if rest is not None else listed(stayed, yes) == answer, f"{expression}: left is {stayed!r}")
         count += 1
     return count
 

@@ -11,13 +11,14 @@ What is printed for a case: `count` and how many effects it has, then a line for
 or `refused` and the number. The stored output of the program is made by the plain port (`driver
 listings` of differential/), which shares no code with the proved crates; `check` holds it to the answers here.
 
-No case is refused with 10: the program lends entries enough for any file.
+No case is refused with 10: the program lends entries enough for any file. It lends no yes places, so each test counts as no
+in these cases; those of `given` have yes places, and are for python/test_uxt.py.
 """
 
 import sys
 
-from edges import (ARRAY, ARROW, BINARY, CALL, CLASS, ELEMENT, ELISION, FUNCTION, IDENTIFIER, LITERAL,
-                   LOGICAL, NEW, OBJECT, OTHER_LEAF, PROPERTY, SEQUENCE, SPREAD, TEMPLATE, THIS, UNARY,
+from edges import (AND, ARRAY, ARROW, ASSIGNMENT, BINARY, CALL, CLASS, CONDITIONAL, ELEMENT, ELISION, FUNCTION, IDENTIFIER,
+                   LITERAL, LOGICAL, NEW, NULLISH, OBJECT, OR, OTHER_LEAF, PROPERTY, SEQUENCE, SPREAD, TEMPLATE, THIS, UNARY,
                    KIND, SETTINGS, SIZE, VERSION, ZERO, Node, chain, of, plus, tree_file, with_byte, with_u16)
 
 # Facts
@@ -69,6 +70,14 @@ def element(place, sub, *children):
 
 def sequence(place, *children, facts=FLAG):
     return node(SEQUENCE, place, *children, facts=facts)
+
+
+def conditional(place, test, consequent, alternate, facts=FLAG):
+    return node(CONDITIONAL, place, test, consequent, alternate, facts=facts)
+
+
+def logical(sub, place, left, right, facts=FLAG):
+    return node(LOGICAL, place, left, right, facts=facts, sub=sub)
 
 
 # ---- The cases
@@ -243,10 +252,85 @@ def heritages(c):
     c.list("an arrow as first element's key is no heritage", class_of(1, element(2, METHOD + KEY, arrow)), "")
 
 
+def conditionals(c):
+    """Document 02: "The effect list has the test, then the arm run". Each test counts as no."""
+    for facts in (0, FLAG):
+        c.list(f"conditional, facts {facts}", conditional(1, x(2), x(3), x(4), facts), "2/2/0 4/2/0")
+    c.list("conditional, the test clear", conditional(1, x(2, 0), x(3), x(4)), "4/2/0")
+    c.list("conditional, the alternate clear", conditional(1, x(2), x(3), x(4, 0)), "2/2/0")
+    c.list("a conditional as test", conditional(1, conditional(2, x(3), x(4), x(5)), x(6), x(7)), "3/2/0 5/2/0 7/2/0")
+    c.list("a conditional as consequent", conditional(1, x(2), conditional(3, x(4), x(5), x(6)), x(7)), "2/2/0 7/2/0")
+    c.list("a conditional as alternate", conditional(1, x(2), x(3), conditional(4, x(5), x(6), x(7))), "2/2/0 5/2/0 7/2/0")
+    c.list("(a ? b : c) ? d : e ? f : g",
+           conditional(0, conditional(1, x(1), x(5), x(9)), x(14), conditional(18, x(18), x(22), x(26))),
+           "1/2/0 9/2/0 18/2/0 26/2/0")
+    c.list("!a ? f() : 1", conditional(1, node(UNARY, 2, x(3), facts=FLAG, sub=NOT), call(5, x(6, 0)), x(8, 0)), "3/2/0")
+    c.list("!a ? 1 : f()", conditional(1, node(UNARY, 2, x(3), facts=FLAG, sub=NOT), x(5, 0), call(6, x(7, 0))), "3/2/0 6/16/0")
+    c.list("this as alternate, derived", conditional(1, x(2, 0), x(3), node(THIS, 4)), "4/6/0", DERIVED)
+
+
+def logicals(c):
+    """Document 02: "its right side running on yes for and, on no for or"."""
+    for facts in (0, FLAG):
+        c.list(f"and, facts {facts}", logical(AND, 1, x(2), x(3), facts), "2/2/0")
+        c.list(f"or, facts {facts}", logical(OR, 1, x(2), x(3), facts), "2/2/0 3/2/0")
+    c.list("and of ors", logical(AND, 1, logical(OR, 2, x(3), x(4)), logical(OR, 5, x(6), x(7))), "3/2/0 4/2/0")
+    c.list("or of ands", logical(OR, 1, logical(AND, 2, x(3), x(4)), logical(AND, 5, x(6), x(7))), "3/2/0 6/2/0")
+    c.list("or of ors", logical(OR, 1, logical(OR, 2, x(3), x(4)), logical(OR, 5, x(6), x(7))), "3/2/0 4/2/0 6/2/0 7/2/0")
+    c.list("or of conditionals", logical(OR, 1, conditional(2, x(3), x(4), x(5)), conditional(6, x(7), x(8), x(9))),
+           "3/2/0 5/2/0 7/2/0 9/2/0")
+    c.list("conditional of an and, two ors", conditional(1, logical(AND, 2, x(3), x(4)), logical(OR, 5, x(6), x(7)),
+                                                         logical(OR, 8, x(9), x(10))), "3/2/0 9/2/0 10/2/0")
+
+
+def tested(c):
+    """A conditional and an or in every place: both list 30 and 32. Neither is an effect itself, but either may be coerced."""
+    for kind, facts in ((CONDITIONAL, FLAG), (LOGICAL, FLAG), (CONDITIONAL, FLAG + NO_SYMBOL), (LOGICAL, FLAG + STRING)):
+        parts = (x(30), x(31), x(32)) if kind == CONDITIONAL else (x(30), x(32))
+        inner, coerced = node(kind, 20, *parts, facts=facts, sub=0 if kind == CONDITIONAL else OR), f" 20/{kind}/1"
+        for name, root, effects in around(inner, "30/2/0 32/2/0", "" if facts & NO_SYMBOL else coerced):
+            c.list(f"kind {kind}, facts {facts}, {name}", root, effects)
+
+
+def around(inner, listed, coerced):
+    """The node in each place: what it is, the tree, and its effects, of which the node's are given."""
+    yield "in an array", node(ARRAY, 1, x(2), inner, x(3)), f"2/2/0 {listed} 3/2/0"
+    yield "in a flagged spread", node(ARRAY, 1, node(SPREAD, 2, inner, facts=FLAG)), f"{listed} 2/9/0"
+    yield "as a key", node(OBJECT, 1, node(PROPERTY, 2, inner, x(3), sub=1)), f"{listed} 3/2/0"
+    yield "as a value", node(OBJECT, 1, node(PROPERTY, 2, x(3), inner, sub=1)), f"3/2/0 {listed}"
+    yield "in a template", node(TEMPLATE, 1, x(2, NO_SYMBOL), inner), listed + coerced
+    yield "in a sequence", sequence(1, inner, x(2)), f"{listed} 2/2/0"
+    yield "under typeof", node(UNARY, 1, inner, sub=TYPEOF), listed
+    yield "under another unary", node(UNARY, 1, inner, facts=FLAG, sub=OTHER_UNARY), f"{listed} 1/14/0"
+    yield "right in a comparison", node(BINARY, 1, x(2), inner, sub=COMPARISON), f"2/2/0 {listed}"
+    yield "right in an addition, a string left", add(1, literal(2), inner), listed + coerced
+    yield "left in an addition, a string right", add(1, inner, literal(2)), listed + coerced
+    yield "as callee of an impure call", call(1, inner, x(2)), f"{listed} 2/2/0 1/16/0"
+    yield "as callee of a pure call", call(1, inner, x(2), facts=FLAG + LISTED), "2/2/0"
+    yield "as callee, summary free, which asks for an identifier", call(1, inner, facts=SUMMARY_FREE), listed
+    yield "as argument of a pure new", node(NEW, 1, x(2), inner, facts=FLAG + LISTED), listed
+    yield "as heritage", class_of(1, inner, element(2, METHOD + KEY, x(3)), sub=HERITAGE), f"{listed} 3/2/0"
+    yield "as a computed key", class_of(1, element(2, FIELD + STATIC + KEY + VALUE, inner, x(3))), f"{listed} 3/2/0"
+    static = element(2, FIELD + STATIC + VALUE, inner)
+    yield "as a static value", class_of(1, static, element(3, METHOD + KEY, x(4))), f"4/2/0 {listed}"
+    yield "as a value that is not static", class_of(1, element(2, FIELD + VALUE, inner)), ""
+
+
+def arrows(c):
+    """A heritage that ends in a conditional or a logical is no arrow."""
+    arrow = node(ARROW, 9)
+    for name, heritage in (("a conditional of arrows", conditional(2, arrow, arrow, arrow, 0)),
+                           ("an or of arrows", logical(OR, 2, arrow, arrow, 0)),
+                           ("a sequence that ends in such a conditional", sequence(2, conditional(3, arrow, arrow, arrow, 0)))):
+        c.list(f"heritage: {name}", class_of(1, heritage, sub=HERITAGE, facts=0), "")
+
+
 def widest(c):
     c.list("the last place, the largest kind", class_of(0, element(LAST_PLACE, BLOCK + NONEMPTY)), f"{LAST_PLACE}/19/0")
-    c.list("the last place, the largest kind that is coerced",
+    c.list("the last place, itself and coerced",
            node(TEMPLATE, 0, class_of(LAST_PLACE, sub=DECORATED_CLASS)), f"{LAST_PLACE}/18/0 {LAST_PLACE}/18/1")
+    c.list("the last place, the largest kind that is coerced",
+           node(TEMPLATE, 0, conditional(LAST_PLACE, x(1, 0), x(2), x(3, 0))), f"{LAST_PLACE}/21/1")
     c.list("place 0, kind 2, coerced", node(TEMPLATE, 0, x(0)), "0/2/0 0/2/1")
 
 
@@ -260,6 +344,14 @@ def limits(c):
            " ".join(f"{place}/2/0 {place}/2/1" for place in range(1, MOST_RECORDS)))
     c.list(f"depth {MOST_DEPTH}", chain(MOST_DEPTH, lambda inner: node(UNARY, 1, inner, facts=FLAG, sub=OTHER_UNARY),
                                         lambda: x(2)), "2/2/0" + " 1/14/0" * (MOST_DEPTH - 1))
+    tests_first = "2/2/0 " * (MOST_DEPTH - 1) + "4/2/0"
+    for name, wrap, effects in (("tests", lambda inner: conditional(1, inner, x(2), x(3)), "4/2/0" + " 3/2/0" * (MOST_DEPTH - 1)),
+                                ("alternates", lambda inner: conditional(1, x(2), x(3), inner), tests_first),
+                                ("ors", lambda inner: logical(OR, 1, x(2), inner), tests_first)):
+        c.list(f"depth {MOST_DEPTH} over {name}", chain(MOST_DEPTH, wrap, lambda: x(4)), effects)
+    c.list(f"{MOST_RECORDS} records, a conditional of them",
+           conditional(0, wide_template(1332), wide_template(1333), wide_template(1333)),
+           " ".join(f"{place}/2/0 {place}/2/1" for count in (1332, 1333) for place in range(1, count)))
     c.refused("4,000 records", tree_file(wide_template(MOST_RECORDS + 1)), 4)
     c.refused("depth 66", tree_file(chain(MOST_DEPTH + 1)), 8)
 
@@ -274,7 +366,15 @@ def refusals(c):
             ("settings 8", with_byte(good, SETTINGS, 8), 3),
             ("one byte short", good[:-1], 4),
             ("byte 3 of the last record is 1", with_byte(good, of(1, ZERO), 1), 5),
-            ("a logical node", with_byte(good, of(1, KIND), LOGICAL), 6),
+            ("a logical, sub 0", tree_file(logical(NULLISH, 1, x(2), x(3))), 6),
+            ("a logical, sub 3", tree_file(logical(3, 1, x(2), x(3))), 5),
+            ("an and of one", tree_file(node(LOGICAL, 1, x(2), sub=AND)), 7),
+            ("an or of three", tree_file(node(LOGICAL, 1, x(2), x(3), x(4), sub=OR)), 7),
+            ("an and of a spread", tree_file(logical(AND, 1, x(2), node(SPREAD, 3, x(4)))), 7),
+            ("a conditional of two", tree_file(node(CONDITIONAL, 1, x(2), x(3))), 7),
+            ("a conditional of four", tree_file(node(CONDITIONAL, 1, x(2), x(3), x(4), x(5))), 7),
+            ("a spread as alternate", tree_file(conditional(1, x(2), x(3), node(SPREAD, 4, x(5)))), 7),
+            ("an assignment", tree_file(node(ASSIGNMENT, 1, x(2))), 6),
             ("a wrong size", plus(good, of(0, SIZE), 1), 7),
             ("5 after 6 and 7", with_byte(with_byte(plus(good, of(0, SIZE), 1), of(0, KIND), LOGICAL), of(1, ZERO), 1), 5)):
         c.refused(f"refused with {number}: {name}", data, number)
@@ -283,10 +383,51 @@ def refusals(c):
 
 def all_cases():
     c = Cases()
-    for group in (leaves, lists, templates, unaries, binaries, additions, calls, classes, heritages, widest, limits,
-                  refusals):
+    for group in (leaves, lists, templates, unaries, binaries, additions, calls, classes, heritages, conditionals, logicals,
+                  tested, arrows, widest, limits, refusals):
         group(c)
     return c.cases
+
+
+# ---- Lists under yes places: name, tree, the places, and the effects by hand
+
+
+def given():
+    one = conditional(1, x(2), x(3), x(4))
+    for yes, effects in (((), "2/2/0 4/2/0"), ((2,), "2/2/0 3/2/0"), ((1,), "2/2/0 4/2/0"), ((3,), "2/2/0 4/2/0"),
+                         ((4, 1, 3), "2/2/0 4/2/0"), ((2, 2, 2), "2/2/0 3/2/0"), ((9, 2, 0), "2/2/0 3/2/0")):
+        yield f"conditional, yes {yes}", one, yes, effects
+    yield "conditional, the last of 10,000 places", one, (*range(3, 10_002), 2), "2/2/0 3/2/0"
+    yield "conditional, none of 10,000 places", one, range(3, 10_003), "2/2/0 4/2/0"
+    for sub, yes, effects in ((AND, (), "2/2/0"), (AND, (2,), "2/2/0 3/2/0"), (AND, (1, 3), "2/2/0"), (OR, (), "2/2/0 3/2/0"),
+                              (OR, (2,), "2/2/0"), (OR, (1, 3), "2/2/0 3/2/0")):
+        yield f"logical, sub {sub}, yes {yes}", logical(sub, 1, x(2), x(3)), yes, effects
+    negated = conditional(1, node(UNARY, 2, x(3), facts=FLAG, sub=NOT), call(5, x(6, 0)), x(8, 0))
+    yield "!a ? f() : 1, yes at !a", negated, (2,), "3/2/0 5/16/0"
+    yield "!a ? f() : 1, yes at a", negated, (3,), "3/2/0"
+    joined = conditional(0, conditional(1, x(1), x(5), x(9)), x(14), x(18))
+    yield "(a ? b : c) ? d : e, both tests are at 1", joined, (1,), "1/2/0 5/2/0 14/2/0"
+    yield "(a ? b : c) ? d : e, no test is at 0", joined, (0,), "1/2/0 9/2/0 18/2/0"
+    yield "the last place", conditional(1, x(LAST_PLACE), x(3), x(4)), (0, LAST_PLACE), f"{LAST_PLACE}/2/0 3/2/0"
+    yield "a place that is 2 in its lower 16 bits", one, (65538,), "2/2/0 4/2/0"
+    yield "no test", call(1, x(2), x(3)), (1, 2, 3), "2/2/0 3/2/0 1/16/0"
+    yield from given_nested()
+    for name, root, effects in around(conditional(20, x(30), x(32), x(31)), "30/2/0 32/2/0", " 20/21/1"):
+        yield f"conditional {name}, yes", root, (30,), effects
+    for name, root, effects in around(logical(AND, 20, x(30), x(32)), "30/2/0 32/2/0", " 20/20/1"):
+        yield f"and {name}, yes", root, (30,), effects
+
+
+def given_nested():
+    """Each list over the three tests: 11 at the root, 21 in the consequent, 31 in the alternate."""
+    root = conditional(10, x(11), conditional(20, x(21), x(22), x(23)), logical(OR, 30, x(31), x(32)))
+    for bits in range(8):
+        yes = [place for bit, place in enumerate((11, 21, 31)) if bits >> bit & 1]
+        if 11 in yes:
+            effects = "11/2/0 21/2/0 22/2/0" if 21 in yes else "11/2/0 21/2/0 23/2/0"
+        else:
+            effects = "11/2/0 31/2/0" if 31 in yes else "11/2/0 31/2/0 32/2/0"
+        yield f"nested, yes {yes}", root, yes, effects
 
 
 # ---- The files that need most stack
@@ -304,6 +445,9 @@ LISTS = {
     "blocks": lambda room: class_of(1, *[element(2, BLOCK + NONEMPTY) for _ in range(room - 1)]),
     "keys": lambda room: class_of(1, *[element(2, METHOD + KEY, x(3)) for _ in range((room - 1) // 2)]),
     "static values": lambda room: class_of(1, *[element(2, FIELD + STATIC + VALUE, x(3)) for _ in range((room - 1) // 2)]),
+    "conditionals": lambda room: sequence(1, *[conditional(2, x(3), x(4), x(5)) for _ in range((room - 1) // 4)]),
+    "ors": lambda room: sequence(1, *[logical(OR, 2, x(3), x(4)) for _ in range((room - 1) // 3)]),
+    "alternate": lambda room: conditional(1, x(2), x(3), sequence(4, *[x(5) for _ in range(room - 4)])),
 }
 
 # Each way down, with the levels that one step takes.
@@ -320,6 +464,11 @@ STEPS = {
     "argument": (1, lambda inner: call(1, literal(2), inner)),
     "argument of a pure call": (1, lambda inner: call(1, x(2), inner, facts=LISTED)),
     "heritage": (1, lambda inner: class_of(1, inner, sub=HERITAGE)),
+    "test": (1, lambda inner: conditional(1, inner, x(2), x(3))),
+    "consequent": (1, lambda inner: conditional(1, x(2), inner, x(3))),
+    "alternate": (1, lambda inner: conditional(1, x(2), x(3), inner)),
+    "left of an and": (1, lambda inner: logical(AND, 1, inner, x(2))),
+    "right of an or": (1, lambda inner: logical(OR, 1, x(2), inner)),
     "spread": (2, lambda inner: node(ARRAY, 1, node(SPREAD, 2, inner, facts=FLAG))),
     "property": (2, lambda inner: node(OBJECT, 1, node(PROPERTY, 2, inner))),
     "key": (2, lambda inner: class_of(1, element(2, METHOD + KEY, inner))),
@@ -347,7 +496,7 @@ def worst():
         yield siblings(MOST_RECORDS)
     for step in STEPS.values():
         yield under(step, MOST_DEPTH - 1, x(9))
-        # A list of two levels at the bottom; a step takes at most two records and a level.
+        # A list of three levels at the bottom; a step takes at most three records a level.
         for siblings in LISTS.values():
             yield under(step, MOST_DEPTH - 3, siblings(MOST_RECORDS - 3 * MOST_DEPTH))
         # The deepest heritage: sequences within sequences, under each way down.

@@ -18,7 +18,7 @@ from edges import (KIND, LOGICAL, REDUCE, SETTINGS, SIZE, TEMPLATE, VERSION, ZER
                    of, plus, tree_file, with_byte, with_u16)
 from listings import LAST_PLACE, framed, node, sequence, x
 
-MOST_RECORDS, _ = REDUCE
+MOST_RECORDS = REDUCE.records
 READ = 8 + 16 * MOST_RECORDS + 1  # how many bytes a program reads
 MOST_FRAMED = 65535
 

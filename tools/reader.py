@@ -1,7 +1,7 @@
 """A second reader of the tree file: whether a file is refused, for what, and where.
 
-An independent reading of document 01, "The tree file" and refusals 1 to 8: it shares no code with the crates. It is not
-proved. It calls nothing by the depth of a tree, so a file may be as deep as it has records.
+An independent reading of document 01, "The tree file" and refusals 1 to 8, and of document 02, N1: it shares no code with the
+crates. It is not proved. It calls nothing by the depth of a tree, so a file may be as deep as it has records.
 """
 
 import collections
@@ -9,11 +9,20 @@ import dataclasses
 import functools
 import math
 import struct
+import typing
 
 from sentences import ROWS, RULES
 
-REDUCE = (2000, 64)  # most records, greatest depth
-LIST_EFFECTS = (3999, 65)
+
+class Limits(typing.NamedTuple):
+    """What an operation takes."""
+    records: int  # at most
+    depth: int  # at most
+    logicals: bool  # whether logical nodes, of sub 1 and 2
+
+
+REDUCE = Limits(2000, 64, False)
+LIST_EFFECTS = Limits(3999, 65, True)
 
 (LITERAL, IDENTIFIER, FUNCTION, ARROW, OTHER_LEAF, THIS, ARRAY, ELISION, SPREAD, OBJECT, PROPERTY,
  TEMPLATE, SEQUENCE, UNARY, BINARY, CALL, NEW, CLASS, ELEMENT, LOGICAL, CONDITIONAL,
@@ -43,16 +52,15 @@ class Fault:
 
 def fault(data, limits):
     """What the file is refused for, or None. The tests are in the order of their numbers, each over the whole file."""
-    most_records, most_depth = limits
-    found = header_fault(data, most_records)
+    found = header_fault(data, limits.records)
     if found:
         return found
     records = records_of(data)
-    found = fields_fault(records) or left_out_fault(records) or shape_fault(records)
+    found = fields_fault(records) or left_out_fault(records, limits.logicals) or shape_fault(records)
     if found:
         return found
     parents, _ = nesting(records)
-    return count_fault(records) or place_fault(records, parents) or depth_fault(parents, most_depth)
+    return count_fault(records) or place_fault(records, parents) or depth_fault(parents, limits.depth)
 
 
 def answer(data, limits):
@@ -162,7 +170,7 @@ def allowed_facts(kind):
 
 def sub_fault(kind, sub):
     """What is due and the rule, or None."""
-    least, most = {PROPERTY: (0, 1), UNARY: (1, 4), BINARY: (1, 3), CLASS: (0, 3)}.get(kind, (0, 0))
+    least, most = {PROPERTY: (0, 1), UNARY: (1, 4), BINARY: (1, 3), CLASS: (0, 3), LOGICAL: (0, 2)}.get(kind, (0, 0))
     if least <= sub <= most:
         return None
     return ("0 is due", RULES["sub"]) if most == 0 else (f"{least} to {most} is due", ROWS[kind])
@@ -179,10 +187,17 @@ def element_sub_fault(sub):
     return (f"its form is {form}, {bits(wrong)}", RULES["bits 6 and 7"]) if wrong else None
 
 
-def left_out_fault(records):
+def left_out_fault(records, logicals):
+    """A kind that the operation does not take, or a logical by its sub."""
+    if logicals:
+        note, rule = "1 to 21 are taken", RULES["listed kinds"]
+    else:
+        note, rule = "1 to 19 and 21 are taken", RULES["reduced kinds"]
     for i, r in enumerate(records):
-        if r.kind in (LOGICAL, CONDITIONAL, ASSIGNMENT):
-            return in_record(6, records, i, KIND, "1 to 19 are taken", RULES["left out"])
+        if r.kind == ASSIGNMENT or r.kind == LOGICAL and not logicals:
+            return in_record(6, records, i, KIND, note, rule)
+        if r.kind == LOGICAL and r.sub == 0:
+            return in_record(6, records, i, SUB, "1 and 2 are taken", rule)
     return None
 
 
@@ -268,7 +283,8 @@ def counts_of(kind, sub):
         return 1, math.inf
     if kind == CLASS:
         return sub >> 1 & 1, math.inf
-    exactly = {SPREAD: 1, UNARY: 1, BINARY: 2, PROPERTY: 1 + sub, ELEMENT: (sub >> 4 & 1) + (sub >> 6 & 1)}
+    exactly = {SPREAD: 1, UNARY: 1, BINARY: 2, LOGICAL: 2, CONDITIONAL: 3, PROPERTY: 1 + sub,
+               ELEMENT: (sub >> 4 & 1) + (sub >> 6 & 1)}
     return (exactly[kind], exactly[kind]) if kind in exactly else (0, math.inf)
 
 

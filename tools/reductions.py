@@ -19,13 +19,13 @@ this script has no Reduce. Only the flag of a made node follows from its childre
 
 import sys
 
-from edges import (ARRAY, ARROW, BINARY, CALL, COUNT, ELISION, FUNCTION, IDENTIFIER, KIND, LOGICAL, NEW, OBJECT,
-                   OTHER_LEAF, PROPERTY, SEQUENCE, SETTINGS, SIZE, SPREAD, TEMPLATE, THIS, UNARY, VERSION, ZERO,
-                   Node, chain, columns, of, plus, tree_file, u16, with_byte, with_u16)
+from edges import (AND, ARRAY, ARROW, ASSIGNMENT, BINARY, CALL, CONDITIONAL, COUNT, ELISION, FUNCTION, IDENTIFIER, KIND, LOGICAL,
+                   NEW, NULLISH, OBJECT, OR, OTHER_LEAF, PROPERTY, SEQUENCE, SETTINGS, SIZE, SPREAD, TEMPLATE, THIS, UNARY,
+                   VERSION, ZERO, Node, chain, columns, of, plus, tree_file, u16, with_byte, with_u16)
 from listings import (ACCESSOR, ANNOTATED, ANNOTATIONS, BLOCK, COMPARISON, DECORATED, DECORATED_CLASS, DERIVED,
                       FIELD, FLAG, HERITAGE, INDEX_SIGNATURE, KEY, LAST_PLACE, LISTED, METHOD, NO_SYMBOL, NONEMPTY, NOT,
                       OTHER_BINARY, OTHER_UNARY, STATIC, STRING, SUMMARY_FREE, SYMBOL, TREE_SHAKE_ONLY, TYPEOF, VALUE,
-                      VOID, add, call, class_of, element, literal, node, pure, sequence, sequence_of_one, x)
+                      VOID, add, call, class_of, conditional, element, literal, logical, node, pure, sequence, sequence_of_one, x)
 
 MOST_RECORDS, MOST_DEPTH = 2000, 64
 
@@ -97,14 +97,24 @@ def number(place):
     return spelled(1, node(OTHER_LEAF, place, facts=NO_SYMBOL))
 
 
-def made(kind, place, *children):
+def made(kind, place, *children, sub=0):
     """Text 0, symbol and string unknown; "flag set if a child's is, and on every made template"."""
     flagged = kind == TEMPLATE or any(child.facts & FLAG for child in children)
-    return node(kind, place, *children, facts=FLAG if flagged else 0)
+    return node(kind, place, *children, facts=FLAG if flagged else 0, sub=sub)
 
 
 def several(place, *children):
     return made(SEQUENCE, place, *children)
+
+
+def made_and(place, test, arm):
+    """What is left where the alternate goes."""
+    return made(LOGICAL, place, test, arm, sub=AND)
+
+
+def made_or(place, test, arm):
+    """What is left where the consequent goes."""
+    return made(LOGICAL, place, test, arm, sub=OR)
 
 
 # ---- The cases
@@ -570,6 +580,159 @@ def heritages(c):
     c.kept("class, heritage: a flagged sequence, not reduced", class_of(1, flagged, sub=HERITAGE), several(1, flagged))
 
 
+# ---- Conditionals
+
+
+def negated(place):
+    """!a, which is reduced to a only where both arms go."""
+    return unary(NOT, place, x(place + 1))
+
+
+def conditionals(c):
+    """Each case of document 02, N1."""
+    for facts in (0, NO_SYMBOL, STRING):
+        c.removable(f"conditional, facts {facts}: flagged parts go with it", conditional(1, x(2), x(3), x(4), facts))
+    c.removable("conditional, nothing left", conditional(1, clear(2), number(3), clear(4)))
+    c.kept("conditional, both arms go", conditional(1, x(2), number(3), clear(4)), x(2))
+    c.kept("conditional, both arms go, the test is reduced", conditional(1, negated(2), clear(4), clear(5)), x(3))
+    c.removable("conditional, both arms go, and the test", conditional(1, void(2, clear(3)), clear(4), clear(5)))
+    c.kept("conditional, both arms go, a sequence of one", conditional(1, sequence(2, x(3), clear(4)), clear(5), clear(6)),
+           sequence(2, x(3)))
+    c.kept("conditional, the alternate goes", conditional(1, x(2), x(3), clear(4)), made_and(1, x(2), x(3)))
+    c.kept("conditional, the consequent goes", conditional(1, x(2), clear(3), x(4)), made_or(1, x(2), x(4)))
+    c.unchanged("conditional, neither goes", conditional(1, x(2), x(3), x(4)))
+    c.kept("!a ? f() : 1", conditional(1, negated(2), call(5, clear(5)), number(8)), made_and(1, negated(2), call(5, clear(5))))
+    c.kept("!a ? 1 : f()", conditional(1, negated(2), number(5), call(7, clear(7))), made_or(1, negated(2), call(7, clear(7))))
+    c.unchanged("!a ? f() : g()", conditional(1, negated(2), call(5, clear(5)), call(8, clear(8))))
+    c.kept("conditional, both arms reduced", conditional(1, x(2), array(3, x(4), x(5)), void(6, x(7))),
+           conditional(1, x(2), several(3, x(4), x(5)), x(7)))
+    c.kept("conditional, the arm that stays reduced", conditional(1, void(2, clear(3)), void(4, clear(5)), array(6, x(7), x(8))),
+           made_or(1, void(2, clear(3)), several(6, x(7), x(8))))
+    conditional_facts(c)
+    nested_conditionals(c)
+
+
+def conditional_facts(c):
+    """What is kept is the conditional's own; a made logical has the flag of its test or its arm, and nothing else."""
+    own = FLAG + STRING
+    c.kept("conditional, its own facts, text and place", spelled(5, conditional(1, clear(2), void(3, x(4)), x(5), own)),
+           spelled(5, conditional(1, clear(2), x(4), x(5), own)))
+    c.kept("a made logical has text 0 and no facts but the flag", spelled(5, conditional(1, clear(2), x(3), clear(4), own)),
+           logical(AND, 1, clear(2), x(3)))
+    c.kept("a made logical, flagged by its test", conditional(1, x(2), new(3, clear(4)), clear(5)),
+           logical(AND, 1, x(2), new(3, clear(4))))
+    c.kept("a made logical, flagged by its arm", conditional(1, clear(2), clear(3), x(4)), logical(OR, 1, clear(2), x(4)))
+    for sub, arms in ((AND, (new(3, clear(4)), clear(5))), (OR, (clear(5), new(3, clear(4))))):
+        c.kept(f"a made logical, sub {sub}, not flagged", conditional(1, clear(2), *arms),
+               logical(sub, 1, clear(2), new(3, clear(4)), facts=0))
+    c.kept("a made logical, the dropped arm's flag does not count",
+           conditional(1, clear(2), new(3, clear(4)), unary(TYPEOF, 5, x(6))),
+           logical(AND, 1, clear(2), new(3, clear(4)), facts=0))
+    this = node(THIS, 3)
+    c.kept("this stays, derived", conditional(1, clear(2), this, clear(4)), logical(AND, 1, clear(2), this, facts=0), DERIVED)
+    c.removable("this goes, not derived", conditional(1, clear(2), this, clear(4)), 3)
+    c.kept("the greatest text and place", spelled(LAST_PLACE, conditional(LAST_PLACE, x(LAST_PLACE), x(1), clear(2))),
+           made_and(LAST_PLACE, x(LAST_PLACE), x(1)))
+
+
+def nested_conditionals(c):
+    """Nothing is regrouped, and a test is reduced only where both arms go."""
+    inner = conditional(20, x(21), x(22), clear(23))
+    left = made_and(20, x(21), x(22))
+    c.kept("a conditional as test, the alternate goes", conditional(1, inner, x(3), clear(4)), made_and(1, inner, x(3)))
+    c.kept("a conditional as test, the consequent goes", conditional(1, inner, clear(3), x(4)), made_or(1, inner, x(4)))
+    c.unchanged("a conditional as test, neither goes", conditional(1, inner, x(3), x(4)))
+    c.kept("a conditional as test, both arms go", conditional(1, inner, clear(3), clear(4)), left)
+    c.kept("a conditional as consequent, the alternate goes", conditional(1, x(2), inner, clear(4)), made_and(1, x(2), left))
+    c.kept("a conditional as consequent, neither goes", conditional(1, x(2), inner, x(4)), conditional(1, x(2), left, x(4)))
+    c.kept("a conditional as alternate, the consequent goes", conditional(1, x(2), clear(3), inner), made_or(1, x(2), left))
+    c.kept("a conditional as alternate, neither goes", conditional(1, x(2), x(3), inner), conditional(1, x(2), x(3), left))
+    c.kept("a clear conditional as consequent", conditional(1, x(2), conditional(3, x(4), x(5), x(6), 0), x(7)),
+           made_or(1, x(2), x(7)))
+    unflagged = conditional(2, x(3), x(4), x(5), 0)
+    c.kept("a clear conditional as test", conditional(1, unflagged, x(6), clear(7)), made_and(1, unflagged, x(6)))
+    c.removable("a clear conditional as test, both arms go", conditional(1, unflagged, clear(6), clear(7)))
+    c.kept("or in or: no regrouping", conditional(1, x(2), clear(3), conditional(4, x(5), clear(6), x(7))),
+           made_or(1, x(2), made_or(4, x(5), x(7))))
+    c.kept("and in and in and: no regrouping",
+           conditional(1, x(2), conditional(3, x(4), conditional(5, x(6), x(7), clear(8)), clear(9)), clear(10)),
+           made_and(1, x(2), made_and(3, x(4), made_and(5, x(6), x(7)))))
+    c.kept("an arm of which its test is left", conditional(1, x(2), conditional(3, x(4), clear(5), clear(6)), clear(7)),
+           made_and(1, x(2), x(4)))
+    c.kept("three conditionals in one",
+           conditional(1, inner, conditional(3, x(4), clear(5), x(6)), conditional(7, x(8), clear(9), clear(10))),
+           conditional(1, inner, made_or(3, x(4), x(6)), x(8)))
+    tests = conditional(2, conditional(3, negated(4), clear(6), clear(7)), clear(8), clear(9))
+    c.kept("tests of tests, no arm left", conditional(1, tests, clear(10), clear(11)), x(5))
+
+
+def conditional_places(c):
+    """A conditional of which an and is left, where it is not reduced, or where what is left of it counts."""
+    inner, left = conditional(20, x(21), x(22), clear(23)), made_and(20, x(21), x(22))
+    clear_one = conditional(20, x(21), x(22), clear(23), 0)
+    c.kept("conditional as heritage, extracted unreduced", class_of(1, inner, sub=HERITAGE), several(1, inner))
+    c.removable("conditional as heritage, clear", class_of(1, clear_one, sub=HERITAGE))
+    c.unchanged("conditional as heritage of a class that stays", class_of(1, inner, sub=HERITAGE + DECORATED_CLASS))
+    arrow = node(ARROW, 9)
+    c.removable("conditional of arrows as heritage", class_of(1, conditional(2, clear(3), arrow, arrow, 0), sub=HERITAGE))
+    c.kept("conditional as a class's key, unreduced", class_of(1, element(2, METHOD + KEY, inner)), several(1, inner))
+    c.removable("conditional as a class's key, clear", class_of(1, element(2, METHOD + KEY, clear_one)))
+    static = FIELD + STATIC + VALUE
+    c.unchanged("conditional as static value: the class stays", class_of(1, element(2, static, inner)))
+    c.kept("conditional as static value, clear, unreduced", class_of(1, element(2, static, clear_one)),
+           sequence(1, clear_one, facts=0))
+    c.removable("conditional as value, not static", class_of(1, element(2, FIELD + VALUE, inner)))
+    c.unchanged("conditional as callee, impure", call(1, inner, x(2)))
+    c.removable("conditional as callee, impure, clear", call(1, inner, x(2), facts=0), TREE_SHAKE_ONLY)
+    c.kept("conditional as callee, pure", call(1, inner, x(2), facts=FLAG + LISTED), x(2))
+    c.unchanged("conditional as callee, summary free: no identifier", call(1, inner, x(2), facts=FLAG + SUMMARY_FREE))
+    c.unchanged("conditional as callee and argument of an impure new", new(1, inner, inner))
+    c.kept("conditional in a flagged spread of a pure call", call(1, x(2), spread(3, inner), facts=LISTED),
+           made(ARRAY, 3, spread(3, inner)))
+    c.kept("conditional as key and value", obj(1, spread(2, inner), prop(3, inner, inner)),
+           several(1, made(OBJECT, 3, spread(2, inner)), left, left))
+    c.unchanged("conditional under another unary", unary(OTHER_UNARY, 1, inner))
+    c.unchanged("conditional as the side of another binary", node(BINARY, 1, inner, inner, facts=FLAG, sub=OTHER_BINARY))
+    conditional_sides(c)
+    conditional_templates(c)
+
+
+def conditional_sides(c):
+    """Of additions, which reduce no side, and of comparisons."""
+    parts = x(21), x(22), clear(23)
+    inner, left = conditional(20, *parts), made_and(20, *parts[:2])
+    text, clear_text = conditional(20, *parts, FLAG + STRING), conditional(20, *parts, STRING)
+    c.unchanged("conditional on both sides of an addition", add(1, inner, inner))
+    c.kept("conditional left in an addition, a clear string", add(1, clear_text, x(2)), add(1, literal(20), x(2)))
+    c.unchanged("conditional left in an addition, a flagged string", add(1, text, x(2)))
+    c.kept("conditional left in an addition that gives way", add(1, text, string(2)), text)
+    c.kept("conditional right in an addition, a clear string", add(1, x(2), clear_text), add(1, x(2), literal(20)))
+    c.kept("conditional right of a string, clear and no symbol", add(1, x(2, FLAG + STRING), conditional(20, *parts, NO_SYMBOL)),
+           x(2, FLAG + STRING))
+    c.kept("conditional right of a string, flagged", add(1, string(2), inner), add(1, literal(2), inner))
+    c.kept("conditional on both sides of a comparison", compare(1, inner, inner), several(1, left, left))
+    joined = conditional(20, sequence(24, x(25), x(26)), clear(27), clear(28))
+    c.kept("join_sequence: the test that is left is a sequence", compare(1, joined, x(2)), several(1, x(25), x(26), x(2)))
+
+
+def conditional_templates(c):
+    """A possible symbol waits unreduced; before another's place stands what waited, at the place of what is left of it."""
+    inner = conditional(20, x(21), x(22), clear(23))
+    plain_one = conditional(20, x(21), x(22), clear(23), INNER)
+    c.unchanged("conditional in a template, a possible symbol, text 0", template(1, inner))
+    c.kept("conditional in a template, a possible symbol, text not 0", spelled(9, template(1, inner)), made(TEMPLATE, 1, inner))
+    c.kept("conditional in a template: at the logical's place", template(1, clear(2), plain_one),
+           several(1, made(TEMPLATE, 20, clear(2)), made_and(20, x(21), x(22))))
+    c.kept("conditional in a template: at the test's place",
+           template(1, clear(2), conditional(20, x(21), clear(22), clear(23), INNER)),
+           several(1, made(TEMPLATE, 21, clear(2)), x(21)))
+    c.kept("conditional in a template, which goes: what waits goes on waiting",
+           template(1, clear(2), conditional(20, clear(21), clear(22), clear(23), INNER), plain(3, FLAG)),
+           several(1, made(TEMPLATE, 3, clear(2)), plain(3, FLAG)))
+    c.kept("a template in an arm", conditional(1, x(2), template(3, clear(4), plain(5, FLAG)), clear(6)),
+           made_and(1, x(2), several(3, made(TEMPLATE, 5, clear(4)), plain(5, FLAG))))
+
+
 # ---- Each handler within each other one. Within, all nodes are no symbols, so that a template reduces them.
 
 INNER = FLAG + NO_SYMBOL
@@ -593,6 +756,9 @@ def inners():
     yield "a pure call", call(20, a, b, some, facts=INNER + LISTED), several(20, b, made(ARRAY, 23, some))
     yield ("a class", class_of(20, a, element(22, FIELD + STATIC + VALUE, clear(23)), sub=HERITAGE, facts=INNER),
            several(20, a, clear(23)))
+    yield ("a conditional", conditional(20, a, void(23, b), x(25), INNER), conditional(20, a, b, x(25), INNER))
+    yield "a conditional, an arm goes", conditional(20, negated(23), clear(21), b, INNER), made_or(20, negated(23), b)
+    yield "a conditional, both arms go", conditional(20, negated(23), clear(21), clear(22), INNER), x(24)
 
 
 def in_line(left):
@@ -619,6 +785,10 @@ def outers(inner, left):
     yield "an impure call", call(2, one, inner), call(2, one, inner)
     yield ("a class, as a key", class_of(2, element(3, METHOD + KEY, inner)),
            several(2, inner) if inner.facts & FLAG else None)
+    yield "a test, an arm goes", conditional(2, inner, one, clear(50)), made_and(2, inner, one)
+    yield "a test, both arms go", conditional(2, inner, clear(1), clear(50)), left
+    yield "a consequent", conditional(2, one, inner, clear(50)), made_and(2, one, left)
+    yield "an alternate beside a consequent", conditional(2, one, two, inner), conditional(2, one, two, left)
 
 
 def nested(c):
@@ -649,6 +819,22 @@ def limits(c):
     c.kept("one level more than before",
            chain(MOST_DEPTH - 1, sequence_of_one, lambda: template(5, clear(6), plain(7, FLAG))),
            chain(MOST_DEPTH - 1, sequence_of_one, lambda: several(5, made(TEMPLATE, 7, clear(6)), plain(7, FLAG))))
+    conditional_limits(c)
+
+
+def conditional_limits(c):
+    for name, wrap, close in (
+            ("consequents", lambda inner: conditional(1, x(2), inner, clear(3)), lambda left: made_and(1, x(2), left)),
+            ("alternates", lambda inner: conditional(1, x(2), clear(3), inner), lambda left: made_or(1, x(2), left))):
+        c.kept(f"depth {MOST_DEPTH} over {name}", chain(MOST_DEPTH, wrap, lambda: x(4)), chain(MOST_DEPTH, close, lambda: x(4)))
+    c.kept(f"depth {MOST_DEPTH} over tests, no arm left",
+           chain(MOST_DEPTH, lambda inner: conditional(1, inner, clear(2), clear(3)), lambda: x(4)), x(4))
+    c.unchanged(f"depth {MOST_DEPTH} over tests, both arms of each left",
+                chain(MOST_DEPTH, lambda inner: conditional(1, inner, x(2), x(3)), lambda: x(4)))
+    deep, deeper = template(5, clear(6), plain(7, FLAG)), several(5, made(TEMPLATE, 7, clear(6)), plain(7, FLAG))
+    c.kept("one level more than before, in an arm",
+           conditional(1, x(2), chain(MOST_DEPTH - 2, sequence_of_one, lambda: deep), clear(8)),
+           made_and(1, x(2), chain(MOST_DEPTH - 2, sequence_of_one, lambda: deeper)))
 
 
 def refusals(c):
@@ -680,6 +866,25 @@ def refusals(c):
     c.unchanged("the same file, whole", call(1, x(2)))
 
 
+def conditional_refusals(c):
+    for name, root, answer in (
+            ("a logical, sub 0", logical(NULLISH, 1, x(2), x(3)), 6),
+            ("an and", logical(AND, 1, x(2), x(3)), 6),
+            ("an or", logical(OR, 1, x(2), x(3)), 6),
+            ("an and of three", node(LOGICAL, 1, x(2), x(3), x(4), sub=AND), 6),
+            ("a logical, sub 3", logical(3, 1, x(2), x(3)), 5),
+            ("an or as an arm", conditional(1, x(2), logical(OR, 3, x(4), x(5)), x(6)), 6),
+            ("an assignment as a test", conditional(1, node(ASSIGNMENT, 2, x(3)), x(4), x(5)), 6),
+            ("a conditional of two", node(CONDITIONAL, 1, x(2), x(3)), 7),
+            ("a conditional of four", node(CONDITIONAL, 1, x(2), x(3), x(4), x(5)), 7),
+            ("a conditional, sub 1", node(CONDITIONAL, 1, x(2), x(3), x(4), sub=1), 5),
+            ("a spread as an arm", conditional(1, x(2), spread(3, x(4)), x(5)), 7),
+            ("an elision as a test", conditional(1, elision(2), x(3), x(4)), 7),
+            ("a property as an arm", conditional(1, x(2), x(3), prop(4, x(5))), 7),
+            ("an element as an arm", conditional(1, x(2), element(3, METHOD), x(4)), 7)):
+        c.refused(name, tree_file(root), answer)
+
+
 def lent_bytes(c):
     """N = 1 needs 24 bytes, and N = 2 needs 56."""
     one, two = x(1), void(1, x(2))
@@ -704,7 +909,7 @@ def lent_bytes(c):
 def all_cases():
     c = Cases()
     for group in (rows, leaves, unaries, sequences, arrays, templates, objects, comparisons, chains, additions, calls, arguments,
-                  classes, nested, limits, refusals, lent_bytes):
+                  classes, conditionals, conditional_places, nested, limits, refusals, conditional_refusals, lent_bytes):
         group(c)
     return c.cases
 

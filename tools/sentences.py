@@ -11,7 +11,7 @@ MEANS = {
     3: "one of the setting bits 3 to 7 is set",
     4: "its count N is not in the operation's range, or its length is not 8 + 16 × N bytes",
     5: "a record's kind is not 1 to 22, or its facts or its sub do not fit its kind, or its byte 3 is not 0",
-    6: "a record is of kind 20, 21 or 22",
+    6: "a record is of kind 22, or of kind 20 (List effects takes one with sub 1 or 2)",
     7: "a record's number of children does not fit its kind and sub, a subtree size does not fit the records, the root's size"
        " is not N, or a kind stands where it may not",
     8: "the depth is over the operation's limit",
@@ -36,7 +36,8 @@ RULES = {
     "forms 4 and 5": "Forms 4 and 5 have bits 3 to 6 clear, so a static block does not have bit 3 set.",
     "bits 6 and 7": "Bit 7 may be set only for form 4, bit 6 only for forms 2 and 3.",
     "byte 3": "Byte 3 of every record is 0.",
-    "left out": "Kinds 20 to 22 have numbers so that an exporter can write them; nothing takes them yet.",
+    "reduced kinds": "Reduce takes kinds 1 to 19 and 21.",
+    "listed kinds": "List effects takes kinds 1 to 21, a logical only with sub 1 or 2.",
 
     "children": "4–5 | children | the number of the node's children",
     "root's size": "So record 0 is the root, whose size is N.",
@@ -51,8 +52,9 @@ RULES = {
     "argument": "The arguments are expressions or spreads.",
     "in an object": "An object takes only spreads and properties.",
     "in a class": "A class takes its heritage, an expression, if its sub has bit 1; after that only class elements.",
-    "other child": "Every other child is an expression: the argument of a spread or a unary, both sides of a binary, the expressions"
-                   " of a template and of a sequence, a property's key and value, an element's key and value.",
+    "other child": "Every other child is an expression: the argument of a spread or a unary, both sides of a binary or a logical,"
+                   " the test and both arms of a conditional, the expressions of a template and of a sequence, a property's key and"
+                   " value, an element's key and value.",
 
     "depth": "depth | at most 64 | at most 65",
 }
@@ -74,4 +76,6 @@ ROWS = {
     17: "17 | `new` | 0 | 127 | at least one: the callee, then the arguments",
     18: "18 | class | bit 0 decorated, bit 1 with heritage; so 0 to 3 | 31 | any: with bit 1 first its heritage, which then must be"
         " there; then its elements",
+    20: "20 | logical | 0 `??`, 1 and, 2 or | 31 | two: left, right",
+    21: "21 | conditional: `a ? b : c` | 0 | 31 | three: test, consequent, alternate",
 }

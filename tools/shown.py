@@ -16,8 +16,8 @@ import subprocess
 import sys
 
 import assemble
-from edges import (ARRAY, ARROW, ASSIGNMENT, BINARY, CALL, CLASS, CONDITIONAL, ELEMENT, ELISION, FUNCTION, IDENTIFIER, LITERAL,
-                   LOGICAL, NEW, OBJECT, OTHER_LEAF, PROPERTY, SEQUENCE, SPREAD, TEMPLATE, THIS, UNARY, LIST_EFFECTS, Node,
+from edges import (AND, ARRAY, ARROW, ASSIGNMENT, BINARY, CALL, CLASS, CONDITIONAL, ELEMENT, ELISION, FUNCTION, IDENTIFIER,
+                   LITERAL, LOGICAL, NEW, OBJECT, OR, OTHER_LEAF, PROPERTY, SEQUENCE, SPREAD, TEMPLATE, THIS, UNARY, LIST_EFFECTS, Node,
                    answer, chain, identifier, sample, tree_file)
 from explain import explanation
 from listings import MOST_DEPTH, MOST_RECORDS
@@ -39,7 +39,7 @@ def every_word():
                 Node(TEMPLATE, Node(LITERAL, text=1), Node(TEMPLATE), text=2),
                 *[sample(UNARY, sub) for sub in (1, 2, 3, 4)], *[sample(BINARY, sub) for sub in (1, 2, 3)],
                 *[sample(CALL, facts=x) for x in facts], *[sample(NEW, facts=x) for x in facts if x < 128],
-                *[sample(CLASS, sub) for sub in (0, 1, 2, 3)],
+                *[sample(CLASS, sub) for sub in (0, 1, 2, 3)], sample(CONDITIONAL), *[sample(LOGICAL, sub) for sub in (AND, OR)],
                 Node(CLASS, *[sample(ELEMENT, sub) for sub in range(256) if not element_sub_fault(sub)]),
                 chain(9), identifier())
 
@@ -102,8 +102,11 @@ REFUSED = (  # the number, and a text that it is the answer to
     (5, "uxt 1\nclass\n  element"),
     (5, "uxt 1\nclass\n  element block static"),
     (6, "uxt 1\nlogical\n  this\n  this"),
-    (6, "uxt 1\nconditional\n  this\n  this\n  this"),
     (6, "uxt 1\narray\n  assignment"),
+    (7, "uxt 1\nlogical and\n  this"),
+    (7, "uxt 1\nlogical or\n  this\n  array\n    elision\n  this"),
+    (7, "uxt 1\nconditional\n  this\n  this"),
+    (7, "uxt 1\nconditional\n  this\n  spread\n    this\n  this"),
     (7, "uxt 1\nthis\nthis"),
     (7, "uxt 1\nthis\n  this"),
     (7, "uxt 1\nelision"),
@@ -132,6 +135,8 @@ FAULTS = (  # what is wrong, and the text
     ("line 2: 'heritage' is no word of array", "uxt 1\narray heritage"),
     ("line 2: 'plus' is no word of binary", "uxt 1\nbinary plus"),
     ("line 2: 'not' is the second word of which unary takes one", "uxt 1\nunary void not\n  this"),
+    ("line 2: 'or' is the second word of which logical takes one", "uxt 1\nlogical and or\n  this\n  this"),
+    ("line 2: 'and' is no word of conditional", "uxt 1\nconditional and"),
     ("line 2: 'effect' comes twice", "uxt 1\nthis effect effect"),
     ("line 2: 'place' comes twice", "uxt 1\nthis place 1 place 2"),
     ("line 2: the number behind 'text' is missing", "uxt 1\nthis text"),
@@ -186,15 +191,15 @@ def first_difference(printed, text):
 
 def check_every_word():
     words = set(assemble.show(stored()).split())
-    missing = [word for group in (assemble.SETTINGS, assemble.KINDS[:ELEMENT], assemble.FACTS, *assemble.FORMS.values(),
+    missing = [word for group in (assemble.SETTINGS, assemble.KINDS[:CONDITIONAL], assemble.FACTS, *assemble.FORMS.values(),
                                   *assemble.FLAGS.values()) for word in group if word not in words]
     require(missing == [], f"the stored file lacks {missing}")
 
 
 def check_kinds():
-    """The kinds that the program never prints."""
-    for word, kind in (("logical", LOGICAL), ("conditional", CONDITIONAL), ("assignment", ASSIGNMENT)):
-        require(assemble.assemble(f"uxt 1\n{word}") == tree_file(Node(kind)), f"'{word}' is not kind {kind}")
+    """What the program never prints: an assignment, and a logical of sub 0."""
+    for word, kind in (("assignment", ASSIGNMENT), ("logical", LOGICAL)):
+        require(assemble.assemble(f"uxt 1\n{word}") == tree_file(Node(kind)), f"'{word}' is not kind {kind}, sub 0")
 
 
 def check(program):

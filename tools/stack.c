@@ -3,7 +3,8 @@
  *   stack list < FILES      standard input and standard output are those of the program `listings`: for
  *                           each file its length in two bytes, lower first, and its bytes; printed are
  *                           `count` and how many effects there are, then a line for each, or `refused` and
- *                           the number
+ *                           the number. Each file is listed a second time, of which nothing is printed, with
+ *                           yes places, so that both arms of its conditionals are run
  *   stack reduce < FILES    the same input; printed is a line for each file, as `driver reduced` prints it:
  *                           the number of the refusal, the length of the answer, and the FNV-1a hash of
  *                           its bytes
@@ -22,10 +23,11 @@
 
 #include "uxt.h"
 
-enum { STACK = 256 * 1024, GUARD = 4096, PATTERN = 0xa5 };
+enum { STACK = 256 * 1024, GUARD = 4096, PATTERN = 0xa5, YES = 2048 };
 
 static uint8_t file[65535];
 static size_t file_len;
+static uint32_t yes[YES]; /* 0 to 2,047: there are no tests at other places */
 static uint64_t entries[UXT_MOST_ENTRIES];
 static uint8_t out[UXT_MOST_OUT];
 static uint64_t answer;
@@ -42,6 +44,7 @@ static void *idle(void *unused) {
 }
 
 static void *list(void *unused) {
+    uxt_list_effects_given(file, file_len, yes, YES, entries, UXT_MOST_ENTRIES);
     answer = uxt_list_effects(file, file_len, entries, UXT_MOST_ENTRIES);
     return unused;
 }
@@ -137,6 +140,9 @@ int main(int words, char **word) {
     }
     uint8_t *stack = memory + GUARD;
     size_t files = 0, most = 0;
+    for (uint32_t i = 0; i < YES; i++) {
+        yes[i] = i;
+    }
     for (; read_file(); files++) {
         fill();
         size_t now = run(stack, reduces ? reduce : list);

@@ -11,6 +11,7 @@ FORMS = {
     "unary": ("void", "not", "typeof", "other"),
     "binary": ("comparison", "addition", "other"),
     "element": ("method", "property", "accessor", "block", "index-signature"),
+    "logical": ("and", "or"),
 }
 FLAGS = {
     "property": {"key": 1},

@@ -18,12 +18,12 @@ within templates, each with a symbol that waits before and after what is in it. 
 import itertools
 import sys
 
-from edges import (ARRAY, ARROW, BINARY, CALL, CLASS, COUNT, ELEMENT, ELISION, IDENTIFIER, LITERAL, NEW, OBJECT,
-                   PROPERTY, REDUCE, SEQUENCE, SPREAD, TEMPLATE, UNARY, Node, tree_file, u16)
+from edges import (AND, ARRAY, ARROW, BINARY, CALL, CLASS, CONDITIONAL, COUNT, ELEMENT, ELISION, IDENTIFIER, LITERAL, LOGICAL,
+                   NEW, OBJECT, OR, PROPERTY, REDUCE, SEQUENCE, SPREAD, TEMPLATE, UNARY, Node, tree_file, u16)
 from listings import (ACCESSOR, ADDITION, BLOCK, COMPARISON, FIELD, FLAG, HERITAGE, INDEX_SIGNATURE, KEY, LISTED,
                       METHOD, NONEMPTY, NOT, NO_SYMBOL, OTHER_UNARY, STATIC, STRING, TYPEOF, VALUE, VOID, framed)
 
-MOST_RECORDS, MOST_DEPTH = REDUCE
+MOST_RECORDS, MOST_DEPTH = REDUCE.records, REDUCE.depth
 
 # ---- Nodes: flagged and no symbol, unless said
 
@@ -76,6 +76,10 @@ def addition(left, right, facts=FLAG + NO_SYMBOL):
 
 def comparison(left, right):
     return of(BINARY, left, right, sub=COMPARISON)
+
+
+def conditional(test, consequent, alternate):
+    return of(CONDITIONAL, test, consequent, alternate)
 
 
 def pure(kind, *arguments):
@@ -148,6 +152,9 @@ LISTS = {
         of(SEQUENCE, *some((room - 3) // 2, kept)), of(SEQUENCE, *some((room - 3) // 2, kept))),
     "comparison, a sequence on the right": lambda room: comparison(kept(), of(SEQUENCE, *some(room - 3, kept))),
     "addition, an array on the right": lambda room: addition(string(), of(ARRAY, *some(room - 3, kept))),
+    "conditional of arrays": lambda room: conditional(*[of(ARRAY, *some((room - 4) // 3, kept)) for _ in range(3)]),
+    "conditionals, the consequents dropped": lambda room: of(
+        SEQUENCE, *some(room - 1, lambda: conditional(kept(), dropped(), kept()))),
 }
 
 # ---- Each way down
@@ -185,6 +192,11 @@ STEPS = {
     "heritage": lambda inner: of(CLASS, inner, sub=HERITAGE),
     "key of an element": lambda inner: of(CLASS, element(METHOD + KEY, inner)),
     "static value": lambda inner: of(CLASS, element(FIELD + STATIC + VALUE, inner)),
+    "test": lambda inner: conditional(inner, kept(), dropped()),
+    "test, both arms dropped": lambda inner: conditional(inner, dropped(), dropped()),
+    "consequent": lambda inner: conditional(kept(), inner, kept()),
+    "consequent, the alternate dropped": lambda inner: conditional(kept(), inner, dropped()),
+    "alternate, the consequent dropped": lambda inner: conditional(kept(), dropped(), inner),
 }
 
 
@@ -228,10 +240,10 @@ def ways():
 # ---- Answers that are longer or deeper than the tree, by hand: a function each from the tree
 
 
-def made(kind, place, *children):
+def made(kind, place, *children, sub=0):
     """A made node: all that is known of it is whether a child is flagged."""
     flagged = any(child.facts & FLAG for child in children)
-    return Node(kind, *children, facts=FLAG if flagged else 0, place=place)
+    return Node(kind, *children, facts=FLAG if flagged else 0, sub=sub, place=place)
 
 
 def made_template(place, waiting):
@@ -262,6 +274,27 @@ def of_symbol_first(tree):
     return answer
 
 
+def of_arms(tree):
+    """Of conditionals in an arm of which the other is dropped: each is made an and, or an or, of its test as it stands."""
+    if tree.kind != CONDITIONAL:
+        return tree
+    test, consequent, alternate = tree.children
+    if consequent.facts & FLAG:
+        return made(LOGICAL, tree.place, test, of_arms(consequent), sub=AND)
+    return made(LOGICAL, tree.place, test, of_arms(alternate), sub=OR)
+
+
+def arms():
+    """About as many records and levels as are taken: ands and ors in turn, with tests as large as there is room for."""
+    levels = MOST_DEPTH - 2  # an array as test has a level more
+    each = (MOST_RECORDS - 1) // levels - 2
+    inner = kept()
+    for level in range(levels):
+        test = of(ARRAY, *some(each - 1, kept))
+        inner = conditional(test, inner, dropped()) if level % 2 else conditional(test, dropped(), inner)
+    return inner
+
+
 def grown(count):
     """So many records, of which as many are made as a search has found: chains of templates in a template, a
     symbol before the first, between two and after the last."""
@@ -290,6 +323,7 @@ def by_hand():
     yield "symbols and kept in turn", template(*some(MOST_RECORDS - 2, symbol, kept), symbol()), of_templates
     yield "spreads in a pure call", LISTS["call, pure, spreads"](MOST_RECORDS), of_spreads
     yield "an answer of 65 levels", deepest(), of_symbol_first
+    yield "ands and ors within each other", arms(), of_arms
 
 
 # ---- The files
