@@ -13,7 +13,7 @@ use Rattle.rules.specs.Effects.{effects, effectsOf}
 use Rattle.readings.specs.Input.{Input}
 use Rattle.readings.specs.Split.{some-size}
 use Rattle.readings.specs.Arms.{Arms, arms-at}
-use Rattle.stated.specs.Wrote.{Wrote, wrote-both, wrote-as}
+use Rattle.stated.specs.Wrote.{wrote-both, wrote-as}
 use Rattle.effects.specs.declared.plan.Plan.the-variants.{Arm}
 use Rattle.effects.specs.Plan.{Plans}
 use Rattle.effects.specs.Listing.{InOrder, GivenChildren, ListedChildren, GivenTree, ListedTree}

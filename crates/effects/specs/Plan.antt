@@ -5,7 +5,7 @@ use mathlib.Core.List.{List, [], _∷_, _++_, map, append-nil}
 use Prim.Native.Nat.{ℕ, _/_, _%_, _≤_}
 use native.Mathlib.Omega.{arith}
 use lib.Dec.{eqb, leb}
-use lib.ListN.{take, drop, take-append-drop}
+use lib.ListN.{drop, take-append-drop}
 use borrow.Author.Tests.{ne-eqb, eqb-true, leb-true}
 use Rattle.tree.specs.Tree.{Tree, trees, count}
 use Rattle.tree.specs.Heads.{bare}
@@ -113,9 +113,6 @@ module _ (s : Settings) (t : Tree) where
   -- The test, and what follows it.
   test-is : childrenInOrder (testOf (map (evaluated s) ts)) ≡ effectsOf s (testOf ts)
   test-is = rw (take-map (evaluated s)) (inOrder-is s (testOf ts))
-
-  arms-are : childrenInOrder (armsOf (map (evaluated s) ts)) ≡ effectsOf s (armsOf ts)
-  arms-are = arguments-is
 
   arm-is : (when : Bool)
       → cond when (childrenInOrder (consequentOf (map (evaluated s) ts))) (childrenInOrder (alternateOf (map (evaluated s) ts)))
@@ -258,7 +255,7 @@ module _ (s : Settings) (t : Tree) where
           omega (arith, eqb-true (count (t .kids)) 2 d)
 
       both-run : (h : Handler) → handler (t .head) ≡ h → effectsBy h s t (map (evaluated s) ts) ≡ childrenInOrder (testOf (map (evaluated s) ts)) ++ childrenInOrder (armsOf (map (evaluated s) ts)) → Planned s t (Children false)
-      both-run h x y = record { is = own s t h x ∙ y ∙ ap₂ (_++_) test-is arms-are ∙ both-are ∙ sym (append-nil (effectsOf s ts)); has = tt }
+      both-run h x y = record { is = own s t h x ∙ y ∙ ap₂ (_++_) test-is arguments-is ∙ both-are ∙ sym (append-nil (effectsOf s ts)); has = tt }
 
       test-runs : (h : Handler) → handler (t .head) ≡ h → effectsBy h s t (map (evaluated s) ts) ≡ childrenInOrder (testOf (map (evaluated s) ts)) ++ [] → Planned s t Test
       test-runs h x y = record { is = own s t h x ∙ y ∙ append-nil (childrenInOrder (testOf (map (evaluated s) ts))) ∙ test-is; has = some-child }

@@ -1,6 +1,6 @@
 -- The arms of a conditional, of which one is left at least, behind its test: what the node becomes.
 use mathlib.Core.Path.{_≡_, refl, sym, ap, subst, _∙_}
-use mathlib.Core.List.{List, [], _∷_, _++_, append-nil}
+use mathlib.Core.List.{List, [], _∷_, _++_}
 use Prim.Native.Nat.{ℕ, _+_, _<_, _≤_}
 use native.Mathlib.Omega.{arith}
 use Rattle.tree.specs.Tree.{Place, Head, Tree}

@@ -1,4 +1,4 @@
-use mathlib.Core.Path.{refl, sym, ap, _∙_}
+use mathlib.Core.Path.{sym, ap}
 use Rattle.effects.specs.Answer.{Case, stated}
 use Rattle.uxt.specs.Packed.{packed-refused, packed-answered}
 use borrow.Author.Needs.{needs}
