@@ -1,4 +1,4 @@
-// What the effect list of a node is made of, by its kind, its facts and the settings.
+// What the effect list of a node is made of, by its kind, its facts, the settings and the places that count as yes.
 use fields::kind;
 ghost use mathlib.Core.Path.{_≡_};
 ghost use mathlib.Core.Bool.{true, false};
