@@ -1,12 +1,12 @@
 #!/usr/bin/env python3
-"""Writes twenty-two JavaScript expressions as tree files.
+"""Writes twenty-three JavaScript expressions as tree files.
 
-Usage: python3 exporter.py FOLDER    writes FOLDER/01.uxt to FOLDER/22.uxt
+Usage: python3 exporter.py FOLDER    writes FOLDER/01.uxt to FOLDER/23.uxt
 
 A real exporter walks the tree of a parser. Here the trees are built by hand,
 so that the script shows the format and nothing else: first the writer, then
 short forms for common nodes, then the table of the expressions. All but the
-last two of these were written from docs/FORMAT.md alone. It shares no code
+last three of these were written from docs/FORMAT.md alone. It shares no code
 with this repository.
 
 Of all of them it is known that names are parameters of the function around,
@@ -300,6 +300,18 @@ EXPRESSIONS = [
                   name("c", at("c"))),
              name("d", at("d")),
              name("e", at("e")))),
+
+    # 23: nothing is said of symbols, and nothing need be: neither `typeof` nor
+    # an addition with a string part can be one.
+    ('`${typeof a}${b + "s" + c}`', 0, lambda at:
+        Node(TEMPLATE, EFFECT, 0, 0,
+             Node(UNARY, 0, TYPEOF, at("typeof"), name("a", at("a"))),
+             Node(BINARY, EFFECT, ADDITION, at("b"),
+                  Node(BINARY, EFFECT, ADDITION, at("b"),
+                       name("b", at("b")),
+                       string("s", at('"s"'))),
+                  name("c", at("c"))),
+             spelling=("", "", ""))),
 ]
 
 

@@ -14,7 +14,8 @@ const char *uxt_refusal_text(unsigned number) {
     case UXT_REFUSED_COUNT:
         return "its count N is not in the operation's range, or its length is not 8 + 16 * N bytes";
     case UXT_REFUSED_RECORD:
-        return "a record's kind is not 1 to 22, or its facts or its sub do not fit its kind, or its byte 3 is not 0";
+        return "a record's kind is not 1 to 22, or its facts or its sub do not fit its kind, or its byte 3 is not 0, or it "
+               "is an addition with a string part and its symbol fact is \"yes\"";
     case UXT_REFUSED_KIND:
         return "a record is of kind 22, or of kind 20 (List effects takes one with sub 1 or 2)";
     case UXT_REFUSED_SHAPE:

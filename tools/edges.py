@@ -20,11 +20,12 @@ answer worked out by hand, and the script stops where the two differ; only the c
 import pathlib
 import sys
 
-from reader import (ARRAY, ARROW, ASSIGNMENT, BINARY, CALL, CHILDREN, CLASS, CONDITIONAL, COUNT, ELEMENT, ELISION, FACTS, FUNCTION,
-                    IDENTIFIER, KIND, LIST_EFFECTS, LITERAL, LOGICAL, NEW, OBJECT, OTHER_LEAF, PROPERTY, REDUCE, SEQUENCE,
-                    SETTINGS, SIZE, SPREAD, SUB, TEMPLATE, THIS, UNARY, VERSION, ZERO, answer, of, u16)
+from reader import (ADDITION, ARRAY, ARROW, ASSIGNMENT, BINARY, CALL, CHILDREN, CLASS, COMPARISON, CONDITIONAL, COUNT, ELEMENT,
+                    ELISION, FACTS, FUNCTION, IDENTIFIER, KIND, LIST_EFFECTS, LITERAL, LOGICAL, NEW, OBJECT, OTHER_LEAF, PROPERTY,
+                    REDUCE, SEQUENCE, SETTINGS, SIZE, SPREAD, SUB, TEMPLATE, THIS, UNARY, VERSION, ZERO, answer, of, u16)
 
 NULLISH, AND, OR = 0, 1, 2  # subs of a logical
+SYMBOL, STRING = 4, 18  # facts: symbol yes; string yes, which needs symbol no
 
 # ---- Writing tree files, whole and broken
 
@@ -81,6 +82,16 @@ def conditional(test=None, consequent=None, alternate=None):
 def logical(left=None, right=None, sub=AND):
     """An identifier where no node is given."""
     return Node(LOGICAL, left or identifier(), right or identifier(), sub=sub)
+
+
+def addition(left=None, right=None, facts=0):
+    """An identifier where no node is given."""
+    return Node(BINARY, left or identifier(), right or identifier(), facts=facts, sub=ADDITION)
+
+
+def symbol_and_string():
+    """`"" + a`, recorded as a symbol."""
+    return addition(left=Node(LITERAL), facts=SYMBOL)
 
 
 def chain(depth, wrap=void, inner=identifier):
@@ -250,8 +261,10 @@ def accepted(c):
 
 
 FACTS_OF_MOST = {0, 1, 2, 3, 4, 5, 8, 9, 10, 11, 12, 13, 18, 19}
-FACTS_BY_HAND = {
+FACTS_OF_NO_SYMBOL = {0, 1, 2, 3, 8, 9, 10, 11, 18, 19}
+FACTS_BY_HAND = {  # of a sample, so that a unary is void, and a binary a comparison
     LITERAL: {18},
+    TEMPLATE: FACTS_OF_NO_SYMBOL, UNARY: FACTS_OF_NO_SYMBOL, BINARY: FACTS_OF_NO_SYMBOL,
     ELISION: {0}, PROPERTY: {0}, ELEMENT: {0},
     SPREAD: {0, 1},
     NEW: {more + facts for more in (0, 32, 64, 96) for facts in FACTS_OF_MOST},
@@ -468,6 +481,157 @@ def conditionals(c):
             c.edge(f"kind {root.kind}, {name} {value}", with_byte(tree_file(root), of(0, field), value), 5)
 
 
+# ---- What can never be a symbol: document 02, N9
+
+FIVE = (  # those that a record tells alone
+    ("void", lambda facts: Node(UNARY, identifier(), facts=facts, sub=1)),
+    ("not", lambda facts: Node(UNARY, identifier(), facts=facts, sub=2)),
+    ("typeof", lambda facts: Node(UNARY, identifier(), facts=facts, sub=3)),
+    ("a comparison", lambda facts: Node(BINARY, identifier(), identifier(), facts=facts, sub=COMPARISON)),
+    ("a template", lambda facts: Node(TEMPLATE, identifier(), facts=facts)),
+)
+WITH_PART = (
+    ("an addition of a string, on the left", lambda facts: addition(left=Node(LITERAL), facts=facts)),
+    ("an addition of a string, on the right", lambda facts: addition(right=Node(LITERAL), facts=facts)),
+)
+OTHERS = (
+    ("another unary", lambda facts: Node(UNARY, identifier(), facts=facts, sub=4)),
+    ("another binary", lambda facts: Node(BINARY, identifier(), identifier(), facts=facts, sub=3)),
+    ("an addition of no string", lambda facts: addition(facts=facts)),
+)
+
+
+def symbols(c):
+    """Each of the six, and what is most like them, with each of the facts; symbol yes in each place."""
+    for forms, allowed in ((FIVE, FACTS_OF_NO_SYMBOL), (WITH_PART, FACTS_OF_NO_SYMBOL), (OTHERS, FACTS_OF_MOST)):
+        for name, make in forms:
+            taken = by_hand(make(0))
+            for value in range(32):
+                c.edge(f"{name}, facts {value}", tree_file(make(value)), *taken if value in allowed else (5,))
+    for place, build, _ in POSITIONS:
+        for name, make in FIVE:
+            c.edge(f"{name}, a symbol, {place}", tree_file(build(make(SYMBOL))), 5)
+        for name, make in WITH_PART:  # where 6 is due, that comes first
+            root = build(make(SYMBOL))
+            c.edge(f"{name}, a symbol, {place}", tree_file(root), *by_hand(root, 5))
+        for name, make in FIVE + WITH_PART:
+            root = build(make(0))
+            c.edge(f"{name}, unknown, {place}", tree_file(root), *by_hand(root))
+        for name, make in OTHERS:
+            root = build(make(SYMBOL))
+            c.edge(f"{name}, a symbol, {place}", tree_file(root), *by_hand(root))
+
+
+def sum_of(leaves, symbol=None):
+    """((a + b) + c) + ..; the additions are counted from the inmost on, from 1, and one of them is a symbol."""
+    left = leaves[0]
+    for index, leaf in enumerate(leaves[1:], 1):
+        left = addition(left, leaf, SYMBOL if index == symbol else 0)
+    return left
+
+
+def with_string(count, place, kind=LITERAL):
+    """So many leaves, a string at the place, which is counted from 1."""
+    return [Node(kind, facts=STRING) if index == place else identifier() for index in range(1, count + 1)]
+
+
+def string_parts(c):
+    """One string in a chain of additions, at each of its places, and a symbol at each addition: parts are the leaves up to it."""
+    for depth in range(1, 5):
+        taken = f"0/{2 * depth + 1}"
+        for symbol in range(1, depth + 1):
+            c.edge(f"{depth} additions, no string, {symbol} a symbol", tree_file(sum_of(with_string(depth + 1, 0), symbol)), taken)
+            for p in range(1, depth + 2):
+                for kind in (LITERAL, IDENTIFIER):
+                    c.edge(f"{depth} additions, a string of kind {kind} at {p}, {symbol} a symbol",
+                           tree_file(sum_of(with_string(depth + 1, p, kind), symbol)), 5 if p <= symbol + 1 else taken)
+    right_sides(c)
+    sides_by_facts(c)
+
+
+def right_sides(c):
+    """An addition on the right is a string by its fact alone."""
+    one, text = identifier(), Node(LITERAL)
+    for name, right in (("b + ''", addition(one, text)), ("'' + b", addition(text, one)), ("'' + ''", addition(text, text)),
+                        ("('' + b) + c", addition(addition(text, one), one)), ("b + ('' + c)", addition(one, addition(text, one)))):
+        count = len(list(nodes(right)))
+        c.edge(f"a + ({name}), a symbol", tree_file(addition(one, right, SYMBOL)), f"0/{count + 2}")
+        c.edge(f"(a + ({name})) + d, both symbols",
+               tree_file(addition(addition(one, right, SYMBOL), one, SYMBOL)), f"0/{count + 4}")
+        c.edge(f"'' + ({name}), a symbol", tree_file(addition(text, right, SYMBOL)), 5)
+        recorded = addition(*right.children, facts=STRING)
+        c.edge(f"a + ({name}), a symbol, the right one recorded as a string", tree_file(addition(one, recorded, SYMBOL)), 5)
+    c.edge("a + (b + c), a symbol, the right one recorded as a string",
+           tree_file(addition(one, addition(one, one, STRING), SYMBOL)), 5)
+    c.edge("a + (b + ''), the right one a symbol", tree_file(addition(one, addition(one, text, SYMBOL))), 5)
+    c.edge("a + (b + ''), both symbols", tree_file(addition(one, addition(one, text, SYMBOL), SYMBOL)), 5)
+
+
+def sides_by_facts(c):
+    """An addition's own string fact is no part of it, on the left neither; any other side goes by its fact."""
+    one, text = identifier(), Node(LITERAL)
+    for facts in (0, 1, 2, 8, 10, STRING):
+        c.edge(f"(a + b) + c, a symbol, the left one's facts {facts}",
+               tree_file(addition(addition(one, one, facts), one, SYMBOL)), "0/5")
+        c.edge(f"('' + b) + c, a symbol, the left one's facts {facts}",
+               tree_file(addition(addition(text, one, facts), one, SYMBOL)), 5)
+    for name, kind, children, sub in (("a template", TEMPLATE, (), 0), ("typeof", UNARY, (one,), 3), ("a call", CALL, (one,), 0),
+                                      ("a sequence that ends in a string", SEQUENCE, (one, text), 0),
+                                      ("a conditional of strings", CONDITIONAL, (one, text, text), 0)):
+        for facts, part in ((0, False), (2, False), (10, False), (STRING, True), (STRING + 1, True)):
+            side = Node(kind, *children, facts=facts, sub=sub)
+            due = 5 if part else f"0/{3 + len(children)}"
+            c.edge(f"{name}, facts {facts}, left of an addition, a symbol", tree_file(addition(side, one, SYMBOL)), due)
+            c.edge(f"{name}, facts {facts}, right of an addition, a symbol", tree_file(addition(one, side, SYMBOL)), due)
+
+
+def symbol_order(c):
+    """The test of additions comes behind 7 and before 8."""
+    wrong, one = symbol_and_string(), identifier()
+    for name, other, reduced, listed in (
+            ("an elision", Node(ELISION), 7, 7), ("a conditional of two", Node(CONDITIONAL, one, one), 7, 7),
+            ("an assignment", Node(ASSIGNMENT, one), 6, 6), ("a ??", logical(sub=NULLISH), 6, 6), ("an and", logical(), 6, 5),
+            ("an or that is too deep", chain(70, inner=lambda: logical(sub=OR)), 6, 5),
+            ("a byte 3", Node(IDENTIFIER, zero=1), 5, 5), ("a template that is a symbol", Node(TEMPLATE, facts=SYMBOL), 5, 5),
+            ("what is too deep", chain(70), 5, 5), ("another", symbol_and_string(), 5, 5)):
+        c.edge(f"an addition that is a symbol with a string part, then {name}", tree_file(Node(SEQUENCE, wrong, other)),
+               reduced, listed)
+        c.edge(f"{name}, then such an addition", tree_file(Node(SEQUENCE, other, wrong)), reduced, listed)
+    for count in (0, 1, 3):
+        c.edge(f"an addition of {count} strings, a symbol",
+               tree_file(Node(BINARY, *[Node(LITERAL)] * count, facts=SYMBOL, sub=ADDITION)), 7)
+    c.edge("'' + an elision, a symbol", tree_file(addition(Node(LITERAL), Node(ELISION), SYMBOL)), 7)
+    data = tree_file(wrong)
+    for record in range(3):
+        c.edge(f"such an addition, the size of record {record} one more", plus(data, of(record, SIZE), 1), 7)
+    for name, broken, number in (("mark", with_byte(data, 0, 0), 1), ("version", with_u16(data, VERSION, 2), 2),
+                                 ("settings", with_byte(data, SETTINGS, 8), 3), ("a byte more", data + b"\0", 4)):
+        c.edge(f"such an addition, and {name}", broken, number)
+    c.edge("such an addition, settings 7", tree_file(wrong, settings=7), 5)
+
+
+def symbol_depths(c):
+    """The test of additions meets trees of any depth."""
+    for depth in (62, 63, 64, 65, 66, 130):
+        c.edge(f"an addition that is a symbol with a string part, at depth {depth}",
+               tree_file(chain(depth, inner=symbol_and_string)), 5)
+    for depth, listed in ((64, "0/66"), (65, 8), (66, 8)):
+        c.edge(f"an addition that is a symbol without a string part, at depth {depth}",
+               tree_file(chain(depth, inner=lambda: addition(facts=SYMBOL))), 8, listed)
+    for depth in (63, 64, 65, 66):
+        for p in (1, 2, depth + 1):
+            c.edge(f"{depth} additions, a string at {p}, the outmost a symbol",
+                   tree_file(sum_of(with_string(depth + 1, p), depth)), 5)
+    c.edge("63 additions, no string, the outmost a symbol", tree_file(sum_of(with_string(64, 0), 63)), "0/127")
+    c.edge("65 additions, no string, the outmost a symbol", tree_file(sum_of(with_string(66, 0), 65)), 8)
+    most = 999  # additions in 2,000 records; 1,999 are in 3,999
+    c.edge(f"{most} additions, a string at 1, the outmost a symbol", tree_file(sum_of(with_string(most + 1, 1), most)), 5)
+    c.edge(f"{most} additions, a string last, the one under the outmost a symbol",
+           tree_file(sum_of(with_string(most + 1, most + 1), most - 1)), 8)
+    c.edge("1,999 additions, a string at 1, the outmost a symbol", tree_file(sum_of(with_string(2000, 1), 1999)), 4, 5)
+    c.edge("2,000 records, the last three such an addition", tree_file(chain(1998, inner=symbol_and_string)), 5)
+
+
 def depths(c):
     for depth in (63, 64):
         c.edge(f"depth {depth}", tree_file(chain(depth)), f"0/{depth}")
@@ -582,7 +746,8 @@ def changed_bytes(c):
 def all_cases():
     c = Cases()
     for group in (lengths, header, counts, record_limits, kinds, accepted, facts, subs, zero_byte,
-                  child_counts, shapes, standing, conditionals, depths, conditional_depths, several_faults, changed_bytes):
+                  child_counts, shapes, standing, conditionals, symbols, string_parts, symbol_order, symbol_depths, depths,
+                  conditional_depths, several_faults, changed_bytes):
         group(c)
     return c.cases
 

@@ -17,8 +17,9 @@ import sys
 
 import explanations
 import programs
+from edges import STRING, SYMBOL
 from explain import explanation
-from reader import FIELDS, IDENTIFIER, LIST_EFFECTS, REDUCE, UNARY, Limits, answer, fault
+from reader import ADDITION, BINARY, FIELDS, IDENTIFIER, LIST_EFFECTS, LITERAL, REDUCE, UNARY, Limits, answer, fault
 from sentences import MEANS, ROWS, RULES
 
 ROOT = pathlib.Path(__file__).resolve().parent.parent
@@ -113,15 +114,26 @@ def check_changed(data):
         require(number == 0 or record in records, f"record {record} was changed, and {records} are named: {file.hex()}")
 
 
-# ---- As many records as a file can count, each under the one before
+# ---- As many records as a file can count, each under the one before, or each addition
+
+COUNTED = 65535
+HEADER = b"UXT\1\0\0" + COUNTED.to_bytes(2, "little")
 
 
 def check_deep():
-    count = 65535
-    unaries = b"".join(FIELDS.pack(UNARY, 0, 1, 0, 1, size) for size in range(count, 1, -1))
-    data = b"UXT\1\0\0" + count.to_bytes(2, "little") + unaries + FIELDS.pack(IDENTIFIER, 0, 0, 0, 0, 1)
-    require(answer(data, Limits(count, count, False)) == f"0/{count}", f"depth {count} is refused")
-    require(fault(data, Limits(count, count - 1, False)).record == count - 1, "the last record is not named for its depth")
+    unaries = b"".join(FIELDS.pack(UNARY, 0, 1, 0, 1, size) for size in range(COUNTED, 1, -1))
+    data = HEADER + unaries + FIELDS.pack(IDENTIFIER, 0, 0, 0, 0, 1)
+    require(answer(data, Limits(COUNTED, COUNTED, False)) == f"0/{COUNTED}", f"depth {COUNTED} is refused")
+    require(fault(data, Limits(COUNTED, COUNTED - 1, False)).record == COUNTED - 1, "the last record is not named for its depth")
+
+
+def check_deep_additions():
+    """The outmost is recorded as a symbol, and the left side of the inmost is a string."""
+    sizes = range(COUNTED, 1, -2)
+    additions = b"".join(FIELDS.pack(BINARY, SYMBOL if size == COUNTED else 0, ADDITION, 0, 2, size) for size in sizes)
+    leaves = FIELDS.pack(LITERAL, STRING, 0, 0, 0, 1) + FIELDS.pack(IDENTIFIER, 0, 0, 0, 0, 1) * len(sizes)
+    found = fault(HEADER + additions + leaves, Limits(COUNTED, REDUCE.depth, False))
+    require((found.number, found.record) == (5, 0), f"the symbol among {len(sizes)} additions is not named")
 
 
 # ---- The files of programs.py
@@ -176,7 +188,8 @@ def main(words):
         check_stored()
         check_programs()
         check_deep()
-        for name in ("columns", "class", "conditional"):
+        check_deep_additions()
+        for name in ("columns", "class", "conditional", "addition"):
             check_changed((ROOT / f"examples/{name}.uxt").read_bytes())
     elif words == ["damaged"]:
         check_damaged(sys.stdin.buffer.read())

@@ -4,8 +4,9 @@
 import sys
 
 from edges import (ARRAY, ASSIGNMENT, CALL, CHILDREN, CLASS, CONDITIONAL, COUNT, ELEMENT, ELISION, EXAMPLES, FACTS, IDENTIFIER,
-                   KIND, LITERAL, NULLISH, SEQUENCE, SETTINGS, SIZE, SPREAD, SUB, TEMPLATE, UNARY, VERSION, ZERO, Node, chain,
-                   conditional, flat, identifier, logical, of, plus, tree_file, with_byte, with_u16)
+                   KIND, LITERAL, NULLISH, SEQUENCE, SETTINGS, SIZE, SPREAD, SUB, SYMBOL, TEMPLATE, UNARY, VERSION, ZERO, Node,
+                   chain, conditional, flat, identifier, logical, of, plus, sum_of, symbol_and_string, tree_file, with_byte,
+                   with_string, with_u16)
 from explain import explanation
 
 COLUMNS, ELEMENTS = EXAMPLES["columns"], EXAMPLES["class"]
@@ -27,6 +28,10 @@ FILES = (
     ("5: symbol no and yes", with_byte(COLUMNS, of(1, FACTS), 14)),
     ("5: a string, perhaps a symbol", with_byte(COLUMNS, of(0, FACTS), 17)),
     ("5: a string literal, flagged", tree_file(Node(LITERAL, facts=19))),
+    ("5: typeof, a symbol", tree_file(Node(UNARY, identifier(), facts=SYMBOL, sub=3))),
+    ("5: '' + a, a symbol", tree_file(symbol_and_string())),
+    ("5: a symbol in each of two chains of additions, and a string part in the second alone; it is too deep",
+     tree_file(chain(70, inner=lambda: Node(SEQUENCE, sum_of(with_string(4, 3), 1), sum_of(with_string(4, 2), 3))))),
     ("5: a call with a sub", with_byte(COLUMNS, of(2, SUB), 1)),
     ("5: a unary without a sub", tree_file(Node(UNARY, identifier(), sub=0))),
     ("5: a logical of sub 3", tree_file(logical(sub=3))),
@@ -37,6 +42,7 @@ FILES = (
     ("5: byte 3 of two records, and in the first one facts and sub", FOUR_FAULTS),
     ("6: a && b", EXAMPLES["logical"]),
     ("6: a ?? b", tree_file(logical(sub=NULLISH))),
+    ("6: an and, beside '' + a, a symbol", tree_file(Node(SEQUENCE, logical(), symbol_and_string()))),
     ("6: two records", tree_file(Node(SEQUENCE, conditional(test=Node(ASSIGNMENT)), logical()))),
     ("7: a size, one more", EXAMPLES["broken"]),
     ("7: two sizes, one more each", plus(EXAMPLES["broken"], of(4, SIZE), 1)),
@@ -49,6 +55,7 @@ FILES = (
     ("7: an identifier with a child", tree_file(Node(IDENTIFIER, identifier()))),
     ("7: an elision in a sequence, and an identifier with a child",
      tree_file(Node(SEQUENCE, Node(ELISION), Node(IDENTIFIER, identifier())))),
+    ("7: '' + a, a symbol, beside an elision", tree_file(Node(SEQUENCE, symbol_and_string(), Node(ELISION)))),
     ("7: a call without a callee", tree_file(Node(CALL))),
     ("7: an element without its key", tree_file(Node(CLASS, Node(ELEMENT, sub=17)))),
     ("7: a conditional of two", tree_file(Node(CONDITIONAL, identifier(), identifier()))),

@@ -130,7 +130,7 @@ def templates(c):
     c.list("template: each coercion follows its child",
            node(TEMPLATE, 1, x(2), x(3, FLAG + NO_SYMBOL), x(4, FLAG + SYMBOL), call(5, x(6, 0))),
            "2/2/0 2/2/1 3/2/0 4/2/0 4/2/1 5/16/0 5/16/1")
-    c.list("a template in a template", node(TEMPLATE, 1, node(TEMPLATE, 2, x(3))), "3/2/0 3/2/1 2/12/1")
+    c.list("a template in a template, which can be no symbol", node(TEMPLATE, 1, node(TEMPLATE, 2, x(3))), "3/2/0 3/2/1")
 
 
 def unaries(c):
@@ -176,6 +176,57 @@ def additions(c):
            add(1, x(2, 0), add(3, literal(4), x(5, 0))), "5/2/1 1/15/0")
     c.list("an addition on the right goes by its fact: recorded as a string",
            add(1, x(2, 0), add(3, x(4, 0), x(5, 0), facts=STRING)), "2/2/1")
+
+
+# ---- What can never be a symbol: document 02, N9
+
+
+def never_symbols(facts):
+    """Each of the six at 20, with its list."""
+    plain = FLAG + NO_SYMBOL
+    for name, sub in (("void", VOID), ("not", NOT), ("typeof", TYPEOF)):
+        yield name, node(UNARY, 20, node(OTHER_LEAF, 21, facts=FLAG), facts=facts, sub=sub), "21/5/0"
+    yield "a comparison", node(BINARY, 20, x(21), x(22), facts=facts, sub=COMPARISON), "21/2/0 22/2/0"
+    yield "a template", node(TEMPLATE, 20, x(21, plain), facts=facts), "21/2/0"
+    yield "an addition, a string on the left", add(20, literal(21), x(22, plain), facts), "22/2/0"
+    yield "an addition, a string on the right", add(20, x(21, plain), literal(22), facts), "21/2/0"
+    yield "a chain, a string at its end", add(20, add(21, literal(22), x(23, plain)), x(24, plain), facts), "23/2/0 24/2/0"
+    yield "a chain, a string in its middle", add(20, add(21, x(22, plain), x(23, STRING)), x(24, plain), facts), "22/2/0 24/2/0"
+    right = add(22, x(23), x(24), STRING)
+    yield "an addition, its right one recorded as a string", add(20, x(21, plain), right, facts), "21/2/0 23/2/0 24/2/0"
+
+
+def perhaps_symbols(facts):
+    """What is most like them, at 20 and flagged, with its list."""
+    yield "another unary", node(UNARY, 20, x(21), facts=facts, sub=OTHER_UNARY), "21/2/0 20/14/0"
+    yield "another binary", node(BINARY, 20, x(21), x(22), facts=facts, sub=OTHER_BINARY), "21/2/0 22/2/0 20/15/0"
+    yield "an addition of no string", add(20, x(21), x(22), facts), "21/2/0 22/2/0 20/15/0"
+    right = add(22, x(23, FLAG + NO_SYMBOL), literal(24))
+    yield "a + (b + 's')", add(20, x(21), right, facts), "21/2/0 23/2/0 20/15/0"
+    left = add(21, x(22, 0), x(23, 0), STRING)
+    yield "an addition, its left one recorded as a string, which is none", add(20, left, x(24), facts), "24/2/0 20/15/0"
+
+
+def coercing(inner, listed, coerced):
+    """The node where it is coerced if it is a possible symbol."""
+    plain = x(2, NO_SYMBOL)
+    yield "in a template", node(TEMPLATE, 1, plain, inner), listed + coerced
+    yield "right of a string", add(1, literal(2), inner), listed + coerced
+    yield "left of a string", add(1, inner, literal(2)), listed + coerced
+    yield "right of a chain with a string", add(1, add(3, plain, literal(4)), inner), listed + coerced
+    yield "left of a string, within a chain", add(1, add(3, inner, literal(4)), plain), listed + coerced
+
+
+def symbols(c):
+    for symbol in (0, NO_SYMBOL):
+        for name, inner, listed in never_symbols(FLAG + symbol):
+            for place, root, effects in coercing(inner, listed, ""):
+                c.list(f"{name}, symbol {symbol}, {place}", root, effects)
+    for symbol in (0, NO_SYMBOL, SYMBOL):
+        for name, inner, listed in perhaps_symbols(FLAG + symbol):
+            for place, root, effects in coercing(inner, listed, "" if symbol == NO_SYMBOL else f" 20/{inner.kind}/1"):
+                c.list(f"{name}, symbol {symbol}, {place}", root, effects)
+    c.list("a template by its string fact alone is a string", add(1, node(TEMPLATE, 2), x(3, 0)), "1/15/0")
 
 
 def pure(settings, facts, callee=IDENTIFIER, kind=CALL):
@@ -375,6 +426,10 @@ def refusals(c):
             ("a conditional of four", tree_file(node(CONDITIONAL, 1, x(2), x(3), x(4), x(5))), 7),
             ("a spread as alternate", tree_file(conditional(1, x(2), x(3), node(SPREAD, 4, x(5)))), 7),
             ("an assignment", tree_file(node(ASSIGNMENT, 1, x(2))), 6),
+            ("a template that is a symbol", tree_file(node(TEMPLATE, 1, x(2), facts=SYMBOL)), 5),
+            ("'' + a, a symbol, beside an and", tree_file(logical(AND, 1, x(2), add(3, literal(4), x(5), SYMBOL))), 5),
+            ("'' + a, a symbol, too deep", tree_file(chain(MOST_DEPTH, inner=lambda: add(1, literal(2), x(3), SYMBOL))), 5),
+            ("'' + a spread, a symbol", tree_file(add(1, literal(2), node(SPREAD, 3, x(4)), SYMBOL)), 7),
             ("a wrong size", plus(good, of(0, SIZE), 1), 7),
             ("5 after 6 and 7", with_byte(with_byte(plus(good, of(0, SIZE), 1), of(0, KIND), LOGICAL), of(1, ZERO), 1), 5)):
         c.refused(f"refused with {number}: {name}", data, number)
@@ -383,8 +438,8 @@ def refusals(c):
 
 def all_cases():
     c = Cases()
-    for group in (leaves, lists, templates, unaries, binaries, additions, calls, classes, heritages, conditionals, logicals,
-                  tested, arrows, widest, limits, refusals):
+    for group in (leaves, lists, templates, unaries, binaries, additions, symbols, calls, classes, heritages, conditionals,
+                  logicals, tested, arrows, widest, limits, refusals):
         group(c)
     return c.cases
 
@@ -503,6 +558,9 @@ def worst():
         for half in (1, MOST_DEPTH // 2, MOST_DEPTH - 3):
             heritage = chain(half, sequence_of_one, lambda: node(ARROW, 9))
             yield under(step, MOST_DEPTH - 1 - half, class_of(1, heritage, sub=HERITAGE))
+            # A chain of additions, of which it is asked whether it has a string part.
+            additions = chain(half + 1, lambda inner: add(1, inner, x(2)), lambda: literal(9))
+            yield under(step, MOST_DEPTH - 2 - half, node(TEMPLATE, 1, additions))
         yield with_siblings(step, MOST_DEPTH - 1, 50)
 
 

@@ -1,7 +1,7 @@
 """A second reader of the tree file: whether a file is refused, for what, and where.
 
-An independent reading of document 01, "The tree file" and refusals 1 to 8, and of document 02, N1: it shares no code with the
-crates. It is not proved. It calls nothing by the depth of a tree, so a file may be as deep as it has records.
+An independent reading of document 01, "The tree file" and refusals 1 to 8, and of document 02, N1 and N9: it shares no code with
+the crates. It is not proved. It calls nothing by the depth of a tree, so a file may be as deep as it has records.
 """
 
 import collections
@@ -28,6 +28,8 @@ LIST_EFFECTS = Limits(3999, 65, True)
  TEMPLATE, SEQUENCE, UNARY, BINARY, CALL, NEW, CLASS, ELEMENT, LOGICAL, CONDITIONAL,
  ASSIGNMENT) = range(1, 23)
 
+COMPARISON, ADDITION = 1, 2  # subs of a binary
+
 VERSION, SETTINGS, COUNT = 3, 5, 6  # offsets in the header
 KIND, FACTS, SUB, ZERO, CHILDREN, SIZE = 0, 1, 2, 3, 4, 6  # offsets in a record
 NAMES = {KIND: "kind", FACTS: "facts", SUB: "sub", ZERO: "byte 3", CHILDREN: "children", SIZE: "size"}
@@ -51,7 +53,8 @@ class Fault:
 
 
 def fault(data, limits):
-    """What the file is refused for, or None. The tests are in the order of their numbers, each over the whole file."""
+    """What the file is refused for, or None. The tests are in the order of their numbers, each over the whole file; but that of
+    additions is number 5, too, and needs the shape."""
     found = header_fault(data, limits.records)
     if found:
         return found
@@ -60,7 +63,8 @@ def fault(data, limits):
     if found:
         return found
     parents, _ = nesting(records)
-    return count_fault(records) or place_fault(records, parents) or depth_fault(parents, limits.depth)
+    return (count_fault(records) or place_fault(records, parents) or addition_fault(records)
+            or depth_fault(parents, limits.depth))
 
 
 def answer(data, limits):
@@ -137,7 +141,7 @@ def field_fault(kind, facts, sub, zero):
     """The field that is wrong, what is due and the rule; or None."""
     if not 1 <= kind <= 22:
         return KIND, "1 to 22 is due", RULES["kind"]
-    found = facts_fault(kind, facts)
+    found = facts_fault(kind, facts) or symbol_fault(kind, facts, sub)
     if found:
         return FACTS, *found
     found = element_sub_fault(sub) if kind == ELEMENT else sub_fault(kind, sub)
@@ -160,6 +164,20 @@ def facts_fault(kind, facts):
     if string == 2 and symbol != 1:
         return f"string is yes, symbol is {'yes' if symbol == 2 else 'unknown'}", RULES["string yes"]
     return None
+
+
+def symbol_fault(kind, facts, sub):
+    """The same of a symbol fact on one of the five forms that are told by kind and sub."""
+    never = kind == TEMPLATE or kind == UNARY and sub in (1, 2, 3) or kind == BINARY and sub == COMPARISON
+    return ("symbol is yes", RULES["never a symbol"]) if never and is_symbol(facts) else None
+
+
+def is_symbol(facts):
+    return facts >> 1 & 3 == 2
+
+
+def is_string(facts):
+    return facts >> 3 & 3 == 2
 
 
 def allowed_facts(kind):
@@ -316,6 +334,39 @@ def place_rule(kind, above, sub, first):
     else:
         rule, stands = "other child", expression
     return None if stands else rule
+
+
+# ---- Additions: 5 again, where the records make a tree
+
+
+def addition_fault(records):
+    """The first addition that is recorded as a symbol and has a string part."""
+    strings = string_parts(records)
+    for i, r in enumerate(records):
+        if strings[i] is not None and is_symbol(r.facts):
+            return in_record(5, records, i, FACTS, f"symbol is yes, and record {strings[i]} is a string", RULES["string part"])
+    return None
+
+
+def string_parts(records):
+    """Of each record, if it is an addition with a string part, the record that is this part; else None. From the last record
+    back, so that the left side of an addition is known before it."""
+    parts = [None] * len(records)
+    for i in reversed(range(len(records))):
+        if is_addition(records[i]):
+            left, right = i + 1, i + 1 + records[i + 1].size
+            by_left = parts[left] if is_addition(records[left]) else string_at(records, left)
+            parts[i] = string_at(records, right) if by_left is None else by_left
+    return parts
+
+
+def string_at(records, i):
+    """The record, if its fact says that it is a string; else None."""
+    return i if is_string(records[i].facts) else None
+
+
+def is_addition(record):
+    return record.kind == BINARY and record.sub == ADDITION
 
 
 # ---- The depth: 8

@@ -272,11 +272,11 @@ def templates(c):
     c.removable("template, flagged, empty", template(1))
     c.removable("template, flagged, empty, its text not 0", spelled(9, template(1)))
     c.unchanged("template, all wait, text 0", template(1, clear(2), x(3, SYMBOL), x(4)))
-    c.unchanged("template, what waits is not reduced, text 0", template(1, void(2, x(3)), array(4), facts=STRING))
+    c.unchanged("template, what waits is not reduced, text 0", template(1, array(2, x(3)), array(4), facts=STRING))
     for text in (1, LAST_PLACE):
         c.kept(f"template, one waits, text {text}", spelled(text, template(1, clear(2))), made(TEMPLATE, 1, clear(2)))
-    c.kept("template, all wait unreduced, text not 0", spelled(9, template(1, void(2, x(3)), clear(4), facts=STRING)),
-           made(TEMPLATE, 1, void(2, x(3)), clear(4)))
+    c.kept("template, all wait unreduced, text not 0", spelled(9, template(1, array(2, x(3)), clear(4), facts=STRING)),
+           made(TEMPLATE, 1, array(2, x(3)), clear(4)))
     for text in (0, 9):
         c.removable(f"template, all go, text {text}", spelled(text, template(1, plain(2), string(3))))
         c.kept(f"template, one kept, text {text}", spelled(text, template(1, plain(2), plain(3, FLAG))), plain(3, FLAG))
@@ -454,6 +454,80 @@ def additions(c):
     c.unchanged("other binary, flagged: its sides are not reduced",
                 node(BINARY, 1, void(2, x(3)), clear(4), facts=FLAG, sub=OTHER_BINARY))
     c.removable("other binary, clear: flagged sides go with it", node(BINARY, 1, x(2), x(3), sub=OTHER_BINARY))
+
+
+# ---- What can never be a symbol: document 02, N9
+
+
+def five(facts):
+    """Those that are told by kind and sub, at 20, and what is left of each."""
+    leaf = node(OTHER_LEAF, 21, facts=FLAG)
+    for name, sub in (("void", VOID), ("not", NOT), ("typeof", TYPEOF)):
+        yield name, unary(sub, 20, leaf, facts), leaf
+    yield "a comparison", compare(20, x(21), x(22), facts), several(20, x(21), x(22))
+    yield "a template", template(20, plain(21, FLAG), facts=facts), plain(21, FLAG)
+
+
+def with_part(facts):
+    """Additions with a string part, at 20, and what is left of each if it is flagged."""
+    yield "an addition, a string on the left", add(20, string(21), x(22), facts), add(20, literal(21), x(22), facts)
+    yield "an addition, a string on the right", add(20, x(21), string(22), facts), add(20, x(21), literal(22), facts)
+    for name, leaves, folded in (("at its end", (string(22), x(23)), (literal(22), x(23))),
+                                 ("in its middle", (x(22), string(23)), (x(22), literal(23)))):
+        yield f"a chain, a string {name}", add(20, add(21, *leaves), x(24), facts), add(20, add(21, *folded), x(24), facts)
+    recorded = add(20, x(21), add(22, x(23), x(24), FLAG + STRING), facts)
+    yield "an addition, its right one recorded as a string", recorded, recorded
+
+
+def perhaps_symbols(facts):
+    """What is most like them, at 20; it is left as it is if it is flagged."""
+    for name, root in (("another unary", unary(OTHER_UNARY, 20, x(21), facts)),
+                       ("another binary", node(BINARY, 20, x(21), x(22), facts=facts, sub=OTHER_BINARY)),
+                       ("an addition of no string", add(20, x(21), x(22), facts)),
+                       ("a + (b + 's')", add(20, x(21), add(22, x(23), string(24)), facts)),
+                       ("an addition, its left one recorded as a string, which is none",
+                        add(20, add(21, x(22), x(23), STRING), x(24), facts))):
+        yield name, root, root
+
+
+def symbols(c):
+    for symbol, groups in ((0, (five, with_part)), (NO_SYMBOL, (five, with_part, perhaps_symbols))):
+        for group in groups:
+            for name, inner, left in group(FLAG + symbol):
+                no_symbol(c, f"{name}, symbol {symbol}", inner, left)
+                # A string part takes the right side's stead.
+                folded = left if group == with_part else add(1, inner, literal(2))
+                c.kept(f"{name}, symbol {symbol}, left of a string", add(1, inner, string(2)), folded)
+            for name, inner, left in group(symbol):
+                clear_no_symbol(c, f"{name}, symbol {symbol}, clear", inner, left if group == five else None)
+    for facts in (0, SYMBOL, FLAG, FLAG + SYMBOL):
+        for name, inner, _ in perhaps_symbols(facts):
+            symbol_waits(c, f"{name}, facts {facts}", inner)
+
+
+def no_symbol(c, name, inner, left):
+    """Flagged: a template reduces it, and an addition keeps it as it is."""
+    for text in (0, 9):
+        c.kept(f"{name}, in a template, text {text}", spelled(text, template(1, inner)), left)
+    c.kept(f"{name}, in a template, among what waits", template(1, clear(2), inner, clear(3)),
+           several(1, made(TEMPLATE, left.place, clear(2)), left, made(TEMPLATE, 1, clear(3))))
+    c.kept(f"{name}, right of a string", add(1, string(2), inner), add(1, literal(2), inner))
+
+
+def clear_no_symbol(c, name, inner, left):
+    """Clear: an addition drops it on the right of a string."""
+    c.either(f"{name}, in a template", template(1, inner), left)
+    c.removable(f"{name}, right of a string", add(1, string(2), inner))
+    c.kept(f"{name}, right of a string that stays", add(1, x(2, FLAG + STRING), inner), x(2, FLAG + STRING))
+    c.kept(f"{name}, in a left one that is folded", add(1, add(2, string(3), inner), x(4)), add(1, literal(3), x(4)))
+
+
+def symbol_waits(c, name, inner):
+    c.unchanged(f"{name}, in a template", template(1, inner))
+    c.kept(f"{name}, in a template, before a kept one", template(1, inner, plain(2, FLAG)),
+           several(1, made(TEMPLATE, 2, inner), plain(2, FLAG)))
+    c.kept(f"{name}, right of a string", add(1, string(2), inner), add(1, literal(2), inner))
+    c.kept(f"{name}, in a left one that is folded", add(1, add(2, string(3), inner), plain(4)), add(2, literal(3), inner))
 
 
 def calls(c):
@@ -885,6 +959,22 @@ def conditional_refusals(c):
         c.refused(name, tree_file(root), answer)
 
 
+def symbol_refusals(c):
+    """What can never be a symbol and is recorded as one; the test of additions comes behind 7 and before 8 and 9."""
+    wrong = add(1, literal(2), x(3), SYMBOL)
+    for name, inner, _ in five(SYMBOL):
+        c.refused(f"{name}, a symbol", tree_file(inner), 5)
+    for name, inner, _ in with_part(FLAG + SYMBOL):
+        c.refused(f"{name}, a symbol", tree_file(inner), 5)
+        c.refused(f"{name}, a symbol, and nothing lent", tree_file(inner), 5, lent=0)
+    for name, root, answer in (
+            ("'' + a, a symbol, too deep", chain(MOST_DEPTH, sequence_of_one, lambda: wrong), 5),
+            ("'' + a, a symbol, before a spread", sequence(1, wrong, spread(2, x(3))), 7),
+            ("'' + a, a symbol, before an and", sequence(1, wrong, logical(AND, 2, x(3), x(4))), 6),
+            ("'' + a, a symbol, before an assignment", sequence(1, wrong, node(ASSIGNMENT, 2, x(3))), 6)):
+        c.refused(name, tree_file(root), answer)
+
+
 def lent_bytes(c):
     """N = 1 needs 24 bytes, and N = 2 needs 56."""
     one, two = x(1), void(1, x(2))
@@ -908,8 +998,9 @@ def lent_bytes(c):
 
 def all_cases():
     c = Cases()
-    for group in (rows, leaves, unaries, sequences, arrays, templates, objects, comparisons, chains, additions, calls, arguments,
-                  classes, conditionals, conditional_places, nested, limits, refusals, conditional_refusals, lent_bytes):
+    for group in (rows, leaves, unaries, sequences, arrays, templates, objects, comparisons, chains, additions, symbols, calls,
+                  arguments, classes, conditionals, conditional_places, nested, limits, refusals, conditional_refusals,
+                  symbol_refusals, lent_bytes):
         group(c)
     return c.cases
 

@@ -10,7 +10,8 @@ MEANS = {
     2: "its version is not 1",
     3: "one of the setting bits 3 to 7 is set",
     4: "its count N is not in the operation's range, or its length is not 8 + 16 × N bytes",
-    5: "a record's kind is not 1 to 22, or its facts or its sub do not fit its kind, or its byte 3 is not 0",
+    5: "a record's kind is not 1 to 22, or its facts or its sub do not fit its kind, or its byte 3 is not 0, or it is an addition"
+       ' with a string part and its symbol fact is "yes"; this last is tested behind 7',
     6: "a record is of kind 22, or of kind 20 (List effects takes one with sub 1 or 2)",
     7: "a record's number of children does not fit its kind and sub, a subtree size does not fit the records, the root's size"
        " is not N, or a kind stands where it may not",
@@ -31,6 +32,8 @@ RULES = {
     "allowed facts": "No bit is set that the kind's allowed facts do not have.",
     "pairs": "Neither pair is 3.",
     "string yes": "String yes needs symbol no.",
+    "never a symbol": "Symbol is not yes on a `void`, a `!`, a `typeof`, a comparison or a template.",
+    "string part": "Symbol is not yes on an addition with a string part.",
     "sub": "2 | sub | see *Kinds*; 0 where a kind has no subs",
     "forms": "Forms 0, 6 and 7 do not exist.",
     "forms 4 and 5": "Forms 4 and 5 have bits 3 to 6 clear, so a static block does not have bit 3 set.",

@@ -7,8 +7,9 @@
   worst.py names       a line for each file: what it is
 
 Each kind of list with as many siblings as 2,000 records allow; each way down, 64 levels deep; each list at
-the end of each way; siblings at every level of each way; and trees whose answers are longer or deeper than
-they are. No two records of a file have the same place, so that a place that is wrong shows.
+the end of each way, and each heritage and chain of additions of which the end is asked for; siblings at
+every level of each way; and trees whose answers are longer or deeper than they are. No two records of a
+file have the same place, so that a place that is wrong shows.
 
 The answer that comes nearest to 2 * N - 1 records is, as far as a search went, that of `grown`: templates
 within templates, each with a symbol that waits before and after what is in it. N records become at most
@@ -168,6 +169,7 @@ STEPS = {
     "right of a comparison": lambda inner: comparison(kept(), inner),
     "right of a comparison, the left dropped": lambda inner: comparison(dropped(), inner),
     "left of an addition": lambda inner: addition(inner, kept()),
+    "left of an addition, its symbol fact unknown": lambda inner: addition(inner, kept(), FLAG),
     "left of an addition, the right a string": lambda inner: addition(inner, literal()),
     "left of an addition, the right dropped": lambda inner: addition(inner, dropped()),
     "right of an addition": lambda inner: addition(string(), inner),
@@ -235,6 +237,8 @@ def ways():
             heritage = under(STEPS["sequence"], half - 1, of(ARROW))
             yield (f"{name}, then a heritage of {half} levels",
                    under(step, MOST_DEPTH - 1 - half, of(CLASS, heritage, sub=HERITAGE)))
+            additions = under(STEPS["left of an addition, its symbol fact unknown"], half, string())
+            yield f"{name}, then a template of {half} additions", under(step, MOST_DEPTH - 2 - half, template(additions))
 
 
 # ---- Answers that are longer or deeper than the tree, by hand: a function each from the tree

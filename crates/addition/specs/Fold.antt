@@ -9,14 +9,14 @@ use borrow.Author.Tests.{eq-eqb, ne-eqb}
 use Rattle.tree.specs.Tree.{Head, Tree, forest, one, records, size, recur-is, forest-trees}
 use Rattle.tree.specs.Room.{recordsIn}
 use Rattle.tree.specs.Fields.{headAt, subtreeAt}
+use Rattle.tree.specs.Symbol.{isAddition, stringFact, isString, Sides, isString-other}
 use Rattle.tree.specs.Kind as kind
 use Rattle.rules.specs.Lists.{keepIf}
-use Rattle.rules.specs.Handler.{isKind, isLiteral, isAddition}
-use Rattle.rules.specs.Facts.{stringFact, isStringRule, isString}
+use Rattle.rules.specs.Handler.{isKind, isLiteral}
 use Rattle.rules.specs.Made.{withChildren}
 use Rattle.rules.specs.Addition.{emptiedUnlessFlagged, isDroppedRight, foldSides, foldRule, foldStringAdditionChain}
 use Rattle.rules.specs.Proofs.Lists.{by-cond}
-use Rattle.rules.specs.Proofs.Addition.{Sides, NoSides, by-chain, fold-sides, isString-stays, emptied-string, emptied-string-fact}
+use Rattle.rules.specs.Proofs.Addition.{NoSides, by-chain, fold-sides, isString-stays, emptied-string, emptied-string-fact}
 use Rattle.readings.specs.Node.{Tells}
 use Rattle.readings.specs.Input.{Input, input-node}
 use Rattle.readings.specs.Split.{some-size}
@@ -74,10 +74,10 @@ fold-size = by-chain (λ t. size (foldStringAdditionChain t) ≤ size t) other s
 -- A tree that is no addition is copied.
 pub other-folds : {s : List ℕ} {at size : ℕ} {old new : List ℕ} {pos r : ℕ} (b : Bool) → Tells s at isAddition b → b ≡ false → CopiedTree s at size old new pos r
     → (string : Bool) → Tells s at stringFact string → Folds s at size old new pos r string
-unfolding foldStringAdditionChain foldRule isString isStringRule
+unfolding foldStringAdditionChain foldRule
 other-folds {s} {at} {size} b p v c string q = record {
   by = λ t depth i. wrote-as (copied-wrote t i c) (ap (_∷ []) (sym (folds t (no t depth i))));
-  is = λ t depth i. q .by t (input-node i) ∙ sym (ap isString (folds t (no t depth i)) ∙ recur-is isStringRule t ∙ rw (no t depth i));
+  is = λ t depth i. q .by t (input-node i) ∙ sym (ap isString (folds t (no t depth i)) ∙ isString-other t (no t depth i));
 }
   where
     folds : (t : Tree) → isAddition t ≡ false → foldStringAdditionChain t ≡ t

@@ -7,8 +7,9 @@ use native.Mathlib.Omega.{arith}
 use Rattle.tree.specs.Tree.{Place, Head, Tree, forest, one, records, size}
 use Rattle.tree.specs.Room.{recordsIn}
 use Rattle.tree.specs.Fields.{headAt}
+use Rattle.tree.specs.Symbol.{stringFact, isString}
 use Rattle.tree.specs.Kind as kind
-use Rattle.rules.specs.Facts.{flagged, possibleSymbol, stringFact, isString}
+use Rattle.rules.specs.Facts.{flagged, possibleSymbol}
 use Rattle.rules.specs.Made.{placeOf, madeHead, emptyLiteral, withChildren}
 use Rattle.rules.specs.Addition.{emptiedUnlessFlagged, isDroppedRight, foldSides}
 use Rattle.rules.specs.Proofs.Lists.{by-cond}

@@ -1,9 +1,8 @@
 // `fold_string_addition_chain`, and the rule of an addition that uses it.
 use fields::kind;
-ghost use Prim.Native.Nat.{_+_, _≤_};
 ghost use Rattle.tree.specs.Room.{recordsIn};
 ghost use Rattle.rules.specs.Addition.{isDroppedRight};
-ghost use Rattle.readings.specs.Node.{Tells};
+ghost use Rattle.readings.specs.Node.{SomeNode, Tells};
 ghost use Rattle.output.specs.Given.{GivenTree};
 ghost use Rattle.addition.specs.Sides.{GivenOne, Emptied, RightFolded, GivenSides, SidesFolded};
 ghost use Rattle.addition.specs.Fold.{Folds, RemovesAddition};
@@ -29,7 +28,7 @@ fn empty_unless_flagged(out: &mut [u8], at: usize, next: usize) -> usize
 
 // "a right side that is no symbol and unflagged is dropped"
 fn is_dropped_right(src: &[u8], at: usize) -> bool
-    requires { ⌜ at + 1 ≤ recordsIn (now src) ⌝ }
+    requires { ⌜ SomeNode (now src) at ⌝ }
     ensures { λ r. ⌜ Tells (now (src .entry)) at isDroppedRight r ⌝ }
 {
     if readings::possible_symbol_at(src, at) {
@@ -44,7 +43,7 @@ fn fold_right(src: &[u8], at: usize, size: usize, out: &mut [u8], pos: usize) ->
     ensures { λ r. ⌜ RightFolded (now (src .entry)) at size (now (out .entry)) (now (out .exit)) pos r ⌝ }
 {
     let next = output::copy_tree(src, at, size, out, pos);
-    if readings::string_fact_at(src, at) {
+    if fields::string_fact_at(src, at) {
         return empty_unless_flagged(out, pos, next);
     }
     next
@@ -91,7 +90,7 @@ fn fold_string_addition_chain(
     requires { ⌜ GivenTree (now src) at size pos (recordsIn (now out)) ⌝ }
     ensures { λ r. ⌜ Folds (now (src .entry)) at size (now (out .entry)) (now (out .exit)) pos (r .next) (r .string) ⌝ }
 {
-    if readings::is_addition(src, at) {
+    if fields::is_addition(src, at) {
         let left_size = fields::subtree_at(src, at + 1);
         let left = fold_string_addition_chain(src, at + 1, left_size, out, pos + 1);
         let left_next = left.next;
@@ -102,11 +101,11 @@ fn fold_string_addition_chain(
         if left_string {
             return Folded { next, string: true };
         }
-        let string = readings::string_fact_at(src, right);
+        let string = fields::string_fact_at(src, right);
         return Folded { next, string };
     }
     let next = output::copy_tree(src, at, size, out, pos);
-    let string = readings::string_fact_at(src, at);
+    let string = fields::string_fact_at(src, at);
     Folded { next, string }
 }
 

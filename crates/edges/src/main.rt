@@ -1,27 +1,40 @@
 // For the tests: checks each tree file of standard input under Reduce's limits and under List effects', a line a file.
-// A file stands behind its length in two bytes; one that is cut short is not checked.
-// Of the input the first 655,360 bytes are read.
-use cases::Next;
+// A file stands behind its length in two bytes; one that is cut short is not checked. At most 65,536 files are read.
 use file::Checked;
 use libc::STDIN_FILENO;
 use libc::STDOUT_FILENO;
 
 fn main() {
-    let mut input = [0u8; 655360];
-    let n = io::read_full(STDIN_FILENO, &mut input);
-    check_files(&input[..n]);
+    let mut left: usize = 65536;
+    while 0 < left {
+        if check_next() {
+            left -= 1;
+        } else {
+            return;
+        }
+    }
 }
 
-fn check_files(input: &[u8]) {
-    let mut at = 0;
-    loop {
-        let next = cases::next_case(input, at, 2);
-        let Next::File { start, end } = next else {
-            return;
-        };
-        check_file(&input[start..end]);
-        at = end;
+// Whether there was a next file, which is checked then.
+fn check_next() -> bool {
+    let mut length = [0u8; 2];
+    if io::read_full(STDIN_FILENO, &mut length) < 2 {
+        return false;
     }
+    let mut input = [0u8; 65535];
+    check_whole(&mut input, le::get16(&length, 0))
+}
+
+// The same, where the file has n bytes, which are read into input.
+fn check_whole(input: &mut [u8], n: usize) -> bool {
+    if input.len() < n {
+        return false;
+    }
+    if io::read_full(STDIN_FILENO, &mut input[..n]) < n {
+        return false;
+    }
+    check_file(&input[..n]);
+    true
 }
 
 fn check_file(src: &[u8]) {

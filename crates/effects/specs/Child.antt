@@ -9,14 +9,14 @@ use Rattle.tree.specs.Tree.{Tree, one}
 use Rattle.tree.specs.Fields.{headAt}
 use Rattle.rules.specs.Lists.{concatMap, keepIf}
 use Rattle.rules.specs.Settings.{Settings}
-use Rattle.rules.specs.Facts.{possibleSymbol}
 use Rattle.rules.specs.Class.{hasStaticValue, nonemptyStaticBlock, staticValue}
 use Rattle.rules.specs.Effects.{evaluate, effects, effectsOf, itselfIf, coercion}
 use Rattle.rules.specs.Proofs.Effects.{key-is, static-is}
 use Rattle.readings.specs.Node.{Tells}
+use Rattle.readings.specs.Symbol.{possibleSymbolIf}
 use Rattle.effects.specs.declared.listing.Part.the-variants.{Coerced, Key, Static}
 use Rattle.stated.specs.Wrote.{Wrote, wrote-both, wrote-as}
-use Rattle.effects.specs.Listing.{Listing, InOrder, of, allListedAs, GivenChildren, ListedChildren, GivenTree, ListedTree}
+use Rattle.effects.specs.Listing.{Listing, InOrder, of, allListedAs, GivenChildren, ListedChildren, GivenTree, ListedTree, ListedSide, side-symbol}
 use Rattle.effects.specs.Entry.{effectAt, GivenEntry, entry-itself, entry-coercion, wrote-itself, wrote-coercion}
 use Rattle.readings.specs.Input.{Input, input-node}
 use Rattle.readings.specs.First.{firstSize, GivenFirst}
@@ -26,15 +26,15 @@ module _ {s : List ℕ} {at size depth : ℕ} {st : Settings} {pos : ℕ} where
   pub coerced-given : {room : ℕ} → GivenTree s at size depth st (of Coerced) pos room → GivenTree s at size depth st InOrder pos room
   coerced-given g = record { tree = g .tree; input = g .input; fits = omega (arith, g .fits, length-append (effects st (g .tree)) (coercion (g .tree))) }
 
-  pub coerced-entry : {room : ℕ} → GivenTree s at size depth st (of Coerced) pos room → {old mid : List ℕ} {next : ℕ} → ListedTree s at size depth st InOrder old mid pos next → (when : Bool) → Tells s at possibleSymbol when
-      → GivenEntry s at when 1 next room
-  coerced-entry g a when p =
-      entry-coercion (input-node (g .input)) when (p .by (g .tree) (input-node (g .input)))
-      (omega (arith, a .by (g .tree) (g .input) .ends, g .fits, length-append (effects st (g .tree)) (coercion (g .tree))))
+  -- The coercion behind the child: whether there is one is known by what was told beside its list.
+  module _ {old mid : List ℕ} {next : ℕ} {string : Bool} (a : ListedSide s at size depth st old mid pos next string) {when : Bool} (e : when ≡ possibleSymbolIf string (headAt s at)) where
+    pub coerced-entry : {room : ℕ} → GivenTree s at size depth st (of Coerced) pos room → GivenEntry s at when 1 next room
+    coerced-entry g =
+        entry-coercion (input-node (g .input)) when (side-symbol a e (g .tree) (g .input))
+        (omega (arith, a .listed .by (g .tree) (g .input) .ends, g .fits, length-append (effects st (g .tree)) (coercion (g .tree))))
 
-  pub coerced-done : {old mid new : List ℕ} {next r : ℕ} → ListedTree s at size depth st InOrder old mid pos next → {when : Bool} → Tells s at possibleSymbol when
-      → Wrote mid new next r (keepIf when (effectAt s at 1)) → ListedTree s at size depth st (of Coerced) old new pos r
-  coerced-done a {when} p w = record { by = λ t i. wrote-both (a .by t i) (wrote-coercion (input-node i) when (p .by t (input-node i)) w) }
+    pub coerced-done : {new : List ℕ} {r : ℕ} → Wrote mid new next r (keepIf when (effectAt s at 1)) → ListedTree s at size depth st (of Coerced) old new pos r
+    coerced-done w = record { by = λ t i. wrote-both (a .listed .by t i) (wrote-coercion (input-node i) when (side-symbol a e t i) w) }
 
 module _ {s : List ℕ} {at size depth : ℕ} (u has : ℕ) (eu : u ≡ headAt s at .sub) (eh : has ≡ u / 16 % 2) where
   pub element-first : {st : Settings} {part : Listing} {pos room : ℕ} → GivenTree s at size depth st part pos room → GivenFirst s at has

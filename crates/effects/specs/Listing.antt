@@ -1,12 +1,18 @@
 -- What the functions of the listing are given and what they write.
+use mathlib.Core.Path.{_≡_, ap, _∙_}
+use mathlib.Core.Bool.{Bool}
 use mathlib.Core.List.{List, _++_, append-nil}
 use Prim.Native.Nat.{ℕ, _+_, _<_}
 use lib.ListN.{length}
 use Rattle.tree.specs.Tree.{Forest, Tree, trees, one}
+use Rattle.tree.specs.Fields.{headAt}
+use Rattle.tree.specs.Symbol.{isString}
 use Rattle.stated.specs.Wrote.{Wrote, wrote-as}
 use Rattle.rules.specs.Lists.{concatMap}
 use Rattle.rules.specs.Settings.{Settings}
+use Rattle.rules.specs.Facts.{possibleSymbol}
 use Rattle.rules.specs.Effects.{evaluate, effects, coercion}
+use Rattle.readings.specs.Symbol.{possibleSymbolIf, possible-if}
 use Rattle.readings.specs.Input.{Input}
 use Rattle.effects.specs.declared.listing.Part.{Part}
 use Rattle.effects.specs.declared.listing.Part.the-variants.{Coerced, Key, Static}
@@ -43,6 +49,15 @@ pub record GivenTree (s : List ℕ) (at size depth : ℕ) (st : Settings) (part 
 
 pub record ListedTree (s : List ℕ) (at size depth : ℕ) (st : Settings) (part : Listing) (old new : List ℕ) (pos next : ℕ) : Type 0 where
   pub by : (t : Tree) → Input s at size depth (one t) → Wrote old new pos next (listedAs st part t)
+
+-- Whether the tree is a string is told beside what was listed, so that a chain of additions is gone through once.
+pub record ListedSide (s : List ℕ) (at size depth : ℕ) (st : Settings) (old new : List ℕ) (pos next : ℕ) (string : Bool) : Type 0 where
+  pub listed : ListedTree s at size depth st InOrder old new pos next
+  pub is : (t : Tree) → Input s at size depth (one t) → string ≡ isString t
+
+pub side-symbol : {s : List ℕ} {at size depth : ℕ} {st : Settings} {old new : List ℕ} {pos next : ℕ} {string when : Bool} → ListedSide s at size depth st old new pos next string
+    → when ≡ possibleSymbolIf string (headAt s at) → (t : Tree) → Input s at size depth (one t) → when ≡ possibleSymbol t
+side-symbol {string = string} a e t i = e ∙ ap (possibleSymbolIf string) (i .holds .stands .0) ∙ ap (λ b. possibleSymbolIf b (t .head)) (a .is t i) ∙ possible-if t
 
 -- A tree as a list of one.
 module _ {s : List ℕ} {at size depth : ℕ} {st : Settings} {part : Listing} {pos : ℕ} where

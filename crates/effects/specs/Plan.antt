@@ -7,11 +7,11 @@ use native.Mathlib.Omega.{arith}
 use lib.Dec.{eqb, leb}
 use lib.ListN.{drop, take-append-drop}
 use borrow.Author.Tests.{ne-eqb, eqb-true, leb-true}
-use Rattle.tree.specs.Tree.{Tree, trees, count}
+use Rattle.tree.specs.Tree.{Tree, trees, count, ofTwo}
 use Rattle.tree.specs.Heads.{bare}
 use Rattle.tree.specs.Children.{childCountOk, nodeOk}
 use Rattle.tree.specs.Stands.{node-parts}
-use Rattle.rules.specs.Lists.{concatMap, ofTwo}
+use Rattle.rules.specs.Lists.{concatMap}
 use Rattle.rules.specs.Settings.{Settings, annotations, derived}
 use Rattle.rules.specs.Handler.{Handler, handler}
 use Rattle.rules.specs.Facts.{flagged, listed, ofIdentifier, pureNew, pureCall, testIsYes}

@@ -7,32 +7,28 @@ use native.Mathlib.Omega.{arith}
 use lib.Dec.{eqb}
 use borrow.Author.Tests.{eqb-true, eq-eqb}
 use lib.ListN.{length, length-append}
-use Rattle.tree.specs.Tree.{Head, Tree, one, recur-is}
+use Rattle.tree.specs.Tree.{Head, Tree, one}
 use Rattle.tree.specs.Room.{recordsIn}
 use Rattle.tree.specs.Fields.{headAt, subtreeAt}
 use Rattle.tree.specs.Below.{and-left, and-right}
+use Rattle.tree.specs.Symbol.{isAddition, stringFact, isString, isString-sides, isString-other}
 use Rattle.rules.specs.Lists.{keepIf}
 use Rattle.rules.specs.Settings.{Settings}
-use Rattle.rules.specs.Handler.{isKind, isAddition}
-use Rattle.rules.specs.Facts.{flagged, possibleSymbol, stringFact, isStringRule, isString}
-use Rattle.rules.specs.Proofs.Addition.{isString-sides, effects-sides}
+use Rattle.rules.specs.Facts.{flagged, possibleSymbol}
+use Rattle.rules.specs.Proofs.Addition.{effects-sides}
 use Rattle.rules.specs.Effects.{effects, itselfIf, coercion, additionEffect}
 use Rattle.readings.specs.Node.{Node, Tells}
 use Rattle.tree.specs.Kind as kind
+use Rattle.readings.specs.Symbol.{possibleSymbolIf}
 use Rattle.readings.specs.Split.{some-size}
 use Rattle.readings.specs.Addition.{SidesAt, sides-at}
 use Rattle.effects.specs.Plan.{Plans}
 use Rattle.effects.specs.declared.plan.Plan.the-variants.{Addition}
 use Rattle.stated.specs.Wrote.{Wrote, wrote-both, wrote-as}
-use Rattle.effects.specs.Listing.{InOrder, GivenTree, ListedTree}
+use Rattle.effects.specs.Listing.{InOrder, GivenTree, ListedTree, ListedSide, side-symbol}
 use Rattle.effects.specs.Entry.{effectAt, GivenEntry, entry-itself, entry-coercion, wrote-itself, wrote-coercion}
 use Rattle.effects.specs.Expression.{plan-at}
 use Rattle.readings.specs.Input.{Input, input-node}
-
--- The string answer beside what was listed.
-pub record ListedSide (s : List ℕ) (at size depth : ℕ) (st : Settings) (old new : List ℕ) (pos next : ℕ) (string : Bool) : Type 0 where
-  pub listed : ListedTree s at size depth st InOrder old new pos next
-  pub is : (t : Tree) → Input s at size depth (one t) → string ≡ isString t
 
 pub record GivenSum (s : List ℕ) (at size depth : ℕ) (st : Settings) (pos room : ℕ) : Type 0 where
   pub given : GivenTree s at size depth st InOrder pos room
@@ -47,7 +43,7 @@ module _ {s : List ℕ} {at size depth : ℕ} {st : Settings} {pos room : ℕ} w
       record { given = g; kind-is = ap (λ (x : Head). x .kind) e ∙ h .0; sub-is = ap (λ (x : Head). x .sub) e ∙ h .1 }
 
   pub sum-told : (b : Bool) → Tells s at isAddition b → b ≡ true → GivenTree s at size depth st InOrder pos room → GivenSum s at size depth st pos room
-  unfolding isAddition isKind
+  unfolding isAddition
   sum-told b p v g =
       let t = g .tree in
       let a = sym (p .by t (input-node (g .input))) ∙ v in
@@ -61,7 +57,7 @@ module _ {s : List ℕ} {at size depth : ℕ} {st : Settings} {pos room : ℕ} w
 -- The two sides.
 module _ {s : List ℕ} (at size depth : ℕ) (st : Settings) (ek : headAt s at .kind ≡ kind.binary) (eu : headAt s at .sub ≡ 2) where
   sum-of : (t : Tree) → Input s at size depth (one t) → SidesAt s at size depth t
-  unfolding isAddition isKind
+  unfolding isAddition
   sum-of t i = sides-at t (rw (eq-eqb (t .head .kind) kind.binary k, eq-eqb (t .head .sub) 2 u)) i
     where
       k : t .head .kind ≡ kind.binary
@@ -107,12 +103,12 @@ module _ {s : List ℕ} (at size depth : ℕ) (st : Settings) (ek : headAt s at 
   sum-string t i = isString-sides t (sum-of t i .l) (sum-of t i .r) (sum-of t i .sides)
 
   -- Both sides are listed; `string` is the left side's answer.
-  module _ {z y : ℕ} (ez : z ≡ subtreeAt s (at + 1)) (ey : y ≡ subtreeAt s (at + 1 + z)) {old mid mid′ : List ℕ} {pos next next′ : ℕ} {string : Bool}
-      (a : ListedSide s (at + 1) z (depth - 1) st old mid pos next string) (b : ListedTree s (at + 1 + z) y (depth - 1) st InOrder mid mid′ next next′) where
+  module _ {z y : ℕ} (ez : z ≡ subtreeAt s (at + 1)) (ey : y ≡ subtreeAt s (at + 1 + z)) {old mid mid′ : List ℕ} {pos next next′ : ℕ} {string string′ : Bool}
+      (a : ListedSide s (at + 1) z (depth - 1) st old mid pos next string) (b : ListedSide s (at + 1 + z) y (depth - 1) st mid mid′ next next′ string′) where
     listed-left : ListedSide s (at + 1) (subtreeAt s (at + 1)) (depth - 1) st old mid pos next string
     listed-left = rw ez at a
 
-    listed-right : ListedTree s (at + 1 + subtreeAt s (at + 1)) (subtreeAt s (at + 1 + subtreeAt s (at + 1))) (depth - 1) st InOrder mid mid′ next next′
+    listed-right : ListedSide s (at + 1 + subtreeAt s (at + 1)) (subtreeAt s (at + 1 + subtreeAt s (at + 1))) (depth - 1) st mid mid′ next next′ string′
     listed-right = rw ez at (rw ey at b)
 
     left-node : (t : Tree) (i : Input s at size depth (one t)) → Node s (at + 1) (sum-of t i .l)
@@ -126,16 +122,19 @@ module _ {s : List ℕ} (at size depth : ℕ) (st : Settings) (ek : headAt s at 
 
     sides-wrote : (t : Tree) (i : Input s at size depth (one t)) {new : List ℕ} {r : ℕ} → Wrote mid′ new next′ r (additionEffect t (sum-of t i .l) (sum-of t i .r)) → Wrote old new pos r (effects st t)
     sides-wrote t i w =
-        wrote-as (wrote-both (listed-left .listed .by (sum-of t i .l) (sum-of t i .left-in)) (wrote-both (listed-right .by (sum-of t i .r) (sum-of t i .right-in)) w)) (sym (effects-sides st t (sum-of t i .l) (sum-of t i .r) (sum-of t i .sides)))
+        wrote-as (wrote-both (listed-left .listed .by (sum-of t i .l) (sum-of t i .left-in)) (wrote-both (listed-right .listed .by (sum-of t i .r) (sum-of t i .right-in)) w)) (sym (effects-sides st t (sum-of t i .l) (sum-of t i .r) (sum-of t i .sides)))
 
     tail-fits : {room : ℕ} (g : GivenTree s at size depth st InOrder pos room) → next′ + length (additionEffect (g .tree) (S g .l) (S g .r)) < room
     tail-fits g =
-        omega (arith, sum-length g, listed-left .listed .by (S g .l) (S g .left-in) .ends, listed-right .by (S g .r) (S g .right-in) .ends)
+        omega (arith, sum-length g, listed-left .listed .by (S g .l) (S g .left-in) .ends, listed-right .listed .by (S g .r) (S g .right-in) .ends)
 
     -- Each of the three that may be listed behind the sides.
     module _ (when : Bool) where
       -- a string on the left
-      module _ (v : string ≡ true) (p : Tells s (at + 1 + z) possibleSymbol when) where
+      module _ (v : string ≡ true) (e : when ≡ possibleSymbolIf string′ (headAt s (at + 1 + z))) where
+        right-symbol : (t : Tree) (i : Input s at size depth (one t)) → when ≡ possibleSymbol (sum-of t i .r)
+        right-symbol t i = side-symbol listed-right (rw ez at e) (sum-of t i .r) (sum-of t i .right-in)
+
         on-right : (t : Tree) (i : Input s at size depth (one t)) → additionEffect t (sum-of t i .l) (sum-of t i .r) ≡ coercion (sum-of t i .r)
         unfolding additionEffect
         on-right t i = rw (sym (left-string t i) ∙ v)
@@ -143,17 +142,20 @@ module _ {s : List ℕ} (at size depth : ℕ) (st : Settings) (ek : headAt s at 
         pub right-coercion : {room : ℕ} → GivenTree s at size depth st InOrder pos room → GivenEntry s (at + 1 + z) when 1 next′ room
         right-coercion g =
             let n = right-node (g .tree) (g .input) in
-            entry-coercion n when (p .by (S g .r) n) (rw (on-right (g .tree) (g .input)) at (tail-fits g))
+            entry-coercion n when (right-symbol (g .tree) (g .input)) (rw (on-right (g .tree) (g .input)) at (tail-fits g))
 
         pub right-done : {new : List ℕ} {r : ℕ} → Wrote mid′ new next′ r (keepIf when (effectAt s (at + 1 + z) 1)) → ListedSide s at size depth st old new pos r true
         right-done w = record {
-          listed = record { by = λ t i. sides-wrote t i (wrote-as (wrote-coercion (right-node t i) when (p .by (sum-of t i .r) (right-node t i)) w) (sym (on-right t i))) };
+          listed = record { by = λ t i. sides-wrote t i (wrote-as (wrote-coercion (right-node t i) when (right-symbol t i) w) (sym (on-right t i))) };
           is = λ t i. sym (sum-string t i ∙ rw (sym (left-string t i) ∙ v));
         }
 
       module _ (v : string ≡ false) (right : Bool) (q : Tells s (at + 1 + z) stringFact right) where
         -- a string on the right
-        module _ (x : right ≡ true) (p : Tells s (at + 1) possibleSymbol when) where
+        module _ (x : right ≡ true) (e : when ≡ possibleSymbolIf string (headAt s (at + 1))) where
+          left-symbol : (t : Tree) (i : Input s at size depth (one t)) → when ≡ possibleSymbol (sum-of t i .l)
+          left-symbol t i = side-symbol listed-left e (sum-of t i .l) (sum-of t i .left-in)
+
           on-left : (t : Tree) (i : Input s at size depth (one t)) → additionEffect t (sum-of t i .l) (sum-of t i .r) ≡ coercion (sum-of t i .l)
           unfolding additionEffect
           on-left t i = rw (sym (left-string t i) ∙ v, sym (q .by (sum-of t i .r) (right-node t i)) ∙ x)
@@ -161,11 +163,11 @@ module _ {s : List ℕ} (at size depth : ℕ) (st : Settings) (ek : headAt s at 
           pub left-coercion : {room : ℕ} → GivenTree s at size depth st InOrder pos room → GivenEntry s (at + 1) when 1 next′ room
           left-coercion g =
               let n = left-node (g .tree) (g .input) in
-              entry-coercion n when (p .by (S g .l) n) (rw (on-left (g .tree) (g .input)) at (tail-fits g))
+              entry-coercion n when (left-symbol (g .tree) (g .input)) (rw (on-left (g .tree) (g .input)) at (tail-fits g))
 
           pub left-done : {new : List ℕ} {r : ℕ} → Wrote mid′ new next′ r (keepIf when (effectAt s (at + 1) 1)) → ListedSide s at size depth st old new pos r true
           left-done w = record {
-            listed = record { by = λ t i. sides-wrote t i (wrote-as (wrote-coercion (left-node t i) when (p .by (sum-of t i .l) (left-node t i)) w) (sym (on-left t i))) };
+            listed = record { by = λ t i. sides-wrote t i (wrote-as (wrote-coercion (left-node t i) when (left-symbol t i) w) (sym (on-left t i))) };
             is = λ t i. sym (sum-string t i ∙ rw (sym (left-string t i) ∙ v, sym (q .by (sum-of t i .r) (right-node t i)) ∙ x));
           }
 
@@ -188,11 +190,10 @@ module _ {s : List ℕ} (at size depth : ℕ) (st : Settings) (ek : headAt s at 
             is = λ t i. sym (sum-string t i ∙ rw (sym (left-string t i) ∙ v, sym (q .by (sum-of t i .r) (right-node t i)) ∙ x));
           }
 
--- A left side that is no addition.
+-- A side that is no addition.
 pub side-other : {s : List ℕ} {at size depth : ℕ} {st : Settings} {old new : List ℕ} {pos next : ℕ} (b string : Bool) → Tells s at isAddition b → b ≡ false → Tells s at stringFact string
     → ListedTree s at size depth st InOrder old new pos next → ListedSide s at size depth st old new pos next string
-unfolding isString isStringRule
 side-other b string p v q a = record {
   listed = a;
-  is = λ t i. q .by t (input-node i) ∙ sym (recur-is isStringRule t ∙ rw (sym (p .by t (input-node i)) ∙ v));
+  is = λ t i. q .by t (input-node i) ∙ sym (isString-other t (sym (p .by t (input-node i)) ∙ v));
 }

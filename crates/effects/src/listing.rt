@@ -5,9 +5,9 @@ use crate::plan;
 use crate::plan::Plan;
 ghost use lib.ListN.{length};
 ghost use Rattle.readings.specs.Node.{settingsGiven};
-ghost use Rattle.effects.specs.Listing.{InOrder, of, GivenChildren, ListedChildren, GivenTree, ListedTree};
+ghost use Rattle.effects.specs.Listing.{InOrder, of, GivenChildren, ListedChildren, GivenTree, ListedTree, ListedSide};
 ghost use Rattle.effects.specs.Expression.{GivenExpression, GivenPlanned};
-ghost use Rattle.effects.specs.Sum.{ListedSide, GivenSum};
+ghost use Rattle.effects.specs.Sum.{GivenSum};
 ghost use Rattle.effects.specs.Class.{GivenClass};
 
 // What of a child is listed, where it is not the child alone.
@@ -100,8 +100,10 @@ fn list_part(
 {
     match part {
         Part::Coerced => {
-            let next = list_children(src, at, size, depth, settings, yes, out, pos);
-            let symbol = readings::possible_symbol_at(src, at);
+            let side = list_side(src, at, size, depth, settings, yes, out, pos);
+            let next = side.next;
+            let string = side.string;
+            let symbol = readings::possible_symbol_if(src, at, string);
             entry::list_if(src, at, symbol, 1, out, next)
         }
         Part::Key => {
@@ -232,8 +234,8 @@ fn list_arm(
     list_children(src, third, alternate, below, settings, yes, out, next)
 }
 
-// The left side of an addition: the string answer of an addition comes with its listing.
-fn list_left(
+// A side of an addition, or a template's child: whether it is a string comes with its listing.
+fn list_side(
     src: &[u8],
     at: usize,
     size: usize,
@@ -246,11 +248,11 @@ fn list_left(
     requires { ⌜ GivenTree (now src) at size depth (settingsGiven (now yes) settings) InOrder pos (length (now out)) ⌝ }
     ensures { λ r. ⌜ ListedSide (now (src .entry)) at size depth (settingsGiven (now (yes .entry)) settings) (now (out .entry)) (now (out .exit)) pos (r .next) (r .string) ⌝ }
 {
-    if readings::is_addition(src, at) {
+    if fields::is_addition(src, at) {
         return list_addition(src, at, size, depth, settings, yes, out, pos);
     }
     let next = list_children(src, at, size, depth, settings, yes, out, pos);
-    let string = readings::string_fact_at(src, at);
+    let string = fields::string_fact_at(src, at);
     Side { next, string }
 }
 
@@ -269,19 +271,21 @@ fn list_addition(
 {
     let below = depth - 1;
     let left_size = fields::subtree_at(src, at + 1);
-    let left = list_left(src, at + 1, left_size, below, settings, yes, out, pos);
+    let left = list_side(src, at + 1, left_size, below, settings, yes, out, pos);
     let mid = left.next;
     let left_string = left.string;
     let right = at + 1 + left_size;
     let right_size = fields::subtree_at(src, right);
-    let sides = list_children(src, right, right_size, below, settings, yes, out, mid);
+    let second = list_side(src, right, right_size, below, settings, yes, out, mid);
+    let sides = second.next;
+    let right_string = second.string;
     if left_string {
-        let symbol = readings::possible_symbol_at(src, right);
+        let symbol = readings::possible_symbol_if(src, right, right_string);
         let next = entry::list_if(src, right, symbol, 1, out, sides);
         return Side { next, string: true };
     }
-    if readings::string_fact_at(src, right) {
-        let symbol = readings::possible_symbol_at(src, at + 1);
+    if fields::string_fact_at(src, right) {
+        let symbol = readings::possible_symbol_if(src, at + 1, left_string);
         let next = entry::list_if(src, at + 1, symbol, 1, out, sides);
         return Side { next, string: true };
     }

@@ -1,7 +1,11 @@
 // The fields of record i of a tree file, and where it stands.
+mod facts;
 pub mod kind;
 pub mod offset;
 
+pub use facts::is_addition;
+pub use facts::never_symbol_alone;
+pub use facts::string_fact_at;
 ghost use mathlib.Core.Path.{_≡_};
 ghost use Prim.Native.Nat.{_+_, _<_, _≤_};
 ghost use lib.ListN.{length, getD};

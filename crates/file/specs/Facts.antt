@@ -1,14 +1,15 @@
 -- Each permitted set of fact bits is one less than a power of two, so a byte has no other bit exactly if it is at most that number.
-use mathlib.Core.Path.{_≡_, refl, sym}
-use mathlib.Core.Bool.{Bool, true, false, cond, not, _||_}
+use mathlib.Core.Path.{_≡_, refl, sym, ap, _∙_}
+use mathlib.Core.Bool.{Bool, true, false, cond, not, _&&_, _||_, and-true}
 use mathlib.Core.List.{List, [], _∷_}
 use Prim.Native.Nat.{ℕ, _/_, _%_, _^_, _<_, _≤_}
+use native.Mathlib.Omega.{arith}
 use lib.ListN.{getD}
 use lib.Dec.{eqb, leb}
 use borrow.Author.Tests.{le-leb, lt-leb, ne-eqb, eqb-true}
 use Rattle.tree.specs.Tree.{Head}
-use Rattle.tree.specs.Below.{allBelow, all-at}
-use Rattle.tree.specs.Record.{allowedFacts, bitsWithin, pairsOk, literalOk, factsOk}
+use Rattle.tree.specs.Below.{allBelow, all-at, and-fails}
+use Rattle.tree.specs.Record.{symbolYes, allowedFacts, bitsWithin, pairsOk, literalOk, isVoidNotOrTypeof, isComparison, neverSymbolAlone, symbolOk, factsOk}
 use Rattle.tree.specs.Kind as kind
 
 abbrev pub agree : Bool → Bool → Bool
@@ -38,9 +39,35 @@ pub pairs-at : (f : ℕ) → f < 256 → eqb (0b0000_0010_0111_0111 / 2 ^ (f / 2
 unfolding pairs-same allBelow pairsOk
 pairs-at f l = agree-same (eqb (0b0000_0010_0111_0111 / 2 ^ (f / 2 % 16) % 2) 1) (pairsOk f) (all-at pairs-same 256 refl f l)
 
+-- The kinds among which those are that can never be a symbol.
+abbrev pub neverKind : ℕ → ℕ
+neverKind k = cond (eqb k kind.template || (eqb k kind.unary || eqb k kind.binary)) 1 0
+
+never-same : ℕ → Bool
+never-same k = eqb (0b1101_0000_0000_0000 / 2 ^ k % 2) (neverKind k)
+
+pub never-at : (k : ℕ) → k < 23 → 0b1101_0000_0000_0000 / 2 ^ k % 2 ≡ neverKind k
+unfolding never-same allBelow
+never-at k l = eqb-true (0b1101_0000_0000_0000 / 2 ^ k % 2) (neverKind k) (all-at never-same 23 refl k l)
+
+never-kind : (h : Head) → (neverKind (h .kind) ≡ 1 → ⊥) → neverSymbolAlone h ≡ false
+unfolding neverSymbolAlone isVoidNotOrTypeof isComparison
+never-kind h n = go (eqb (h .kind) kind.template) (eqb (h .kind) kind.unary) (eqb (h .kind) kind.binary) n
+  where
+    go : (t u b : Bool) → (_≡_ {A = ℕ} (cond (t || (u || b)) 1 0) 1 → ⊥) → ((u && leb (h .sub) 3) || ((b && eqb (h .sub) 1) || t)) ≡ false
+    go true u b n = absurd (n refl)
+    go false true b n = absurd (n refl)
+    go false false true n = absurd (n refl)
+    go false false false n = refl
+
 -- At a set of bits for which the test over all bytes computes to true.
 within-at : (m : ℕ) → allBelow (λ f. agree (bitsWithin m f) (leb f m)) 256 ≡ true → (f : ℕ) → f < 256 → bitsWithin m f ≡ leb f m
 within-at m e f l = agree-same (bitsWithin m f) (leb f m) (all-at (λ x. agree (bitsWithin m x) (leb x m)) 256 e f l)
+
+-- A literal is none of those that can never be a symbol.
+literal-fine : (h : Head) → h .kind ≡ kind.literal → symbolOk h ≡ true
+unfolding symbolOk neverSymbolAlone isVoidNotOrTypeof isComparison
+literal-fine h e = ap not (and-fails (symbolYes h) (rw e))
 
 by-cond : (P : ℕ → Type 0) (b : Bool) (x y : ℕ) → P x → P y → P (cond b x y)
 by-cond P true x y p q = p
@@ -74,8 +101,25 @@ module _ (h : Head) (k f allowed : ℕ) (ek : k ≡ h .kind) (ef : f ≡ h .fact
     module _ (p : pairsOk f ≡ true) where
       pub facts-literal : k ≡ kind.literal → factsOk h ≡ eqb f 18
       unfolding factsOk literalOk
-      facts-literal e = rw (within-is, le-leb f allowed o, ← ef, p, ← ek, e)
+      facts-literal e = rw (literal-fine h (sym ek ∙ e), within-is, le-leb f allowed o, ← ef, p, ← ek, e) (and-true (eqb f 18))
 
-      pub facts-other : (k ≡ kind.literal → ⊥) → factsOk h ≡ true
-      unfolding factsOk literalOk
-      facts-other e = rw (within-is, le-leb f allowed o, ← ef, p, ← ek, ne-eqb k kind.literal e)
+      module _ (n : k ≡ kind.literal → ⊥) where
+        facts-rest : factsOk h ≡ symbolOk h
+        unfolding factsOk literalOk
+        facts-rest = rw (within-is, le-leb f allowed o, ← ef, p, ← ek, ne-eqb k kind.literal n)
+
+        pub facts-symbol : cond (eqb (f / 2 % 4) 2) (neverKind k) 0 ≡ 1 → (b : Bool) → b ≡ neverSymbolAlone h → factsOk h ≡ not b
+        unfolding symbolOk symbolYes
+        facts-symbol e b eb = facts-rest ∙ rw (ap (λ (x : ℕ). eqb (x / 2 % 4) 2) (sym ef) ∙ said (eqb (f / 2 % 4) 2) e) (ap not (sym eb))
+          where
+            said : (a : Bool) → cond a (neverKind k) 0 ≡ 1 → a ≡ true
+            said true e = refl
+            said false e = absurd (omega (arith, e))
+
+        pub facts-other : (cond (eqb (f / 2 % 4) 2) (neverKind k) 0 ≡ 1 → ⊥) → factsOk h ≡ true
+        unfolding symbolOk symbolYes
+        facts-other e = facts-rest ∙ rw (← ap (λ (x : ℕ). eqb (x / 2 % 4) 2) ef) (go (eqb (f / 2 % 4) 2) e)
+          where
+            go : (a : Bool) → (cond a (neverKind k) 0 ≡ 1 → ⊥) → not (a && neverSymbolAlone h) ≡ true
+            go true e = ap not (never-kind h (λ x. e (ap neverKind ek ∙ x)))
+            go false e = refl

@@ -5,3 +5,4 @@ pub mod Facts
 pub mod Parents
 pub mod Run
 pub mod Steps
+pub mod Symbols

@@ -1,19 +1,22 @@
 -- The check, test by test: which number it comes to, and the tree once the shape has passed.
-use mathlib.Core.Path.{_≡_, sym}
-use mathlib.Core.Bool.{Bool, true, false}
+use mathlib.Core.Path.{_≡_, refl, sym}
+use mathlib.Core.Bool.{Bool, true, false, _&&_}
 use mathlib.Core.List.{List}
 use Prim.Native.Nat.{ℕ, _<_, _≤_}
 use native.Mathlib.Omega.{arith}
 use Rattle.tree.specs.Tree.{one, levels, depth}
-use Rattle.tree.specs.Below.{allBelow}
+use Rattle.tree.specs.Below.{allBelow, and-both, and-left, and-right}
 use Rattle.tree.specs.Record.{recordOk, taken}
+use Rattle.tree.specs.Children.{nodeOk, formed, wellFormed}
+use Rattle.tree.specs.Kind as kind
 use Rattle.tree.specs.Room.{recordsIn}
 use Rattle.tree.specs.Fields.{settingsOf, countOf, headAt}
-use Rattle.tree.specs.Refusal.{Limits, markOk, versionOk, settingsOk, countOk, recordsOk, allTaken, shapeOk, treeOf, depthOk, refusal}
+use Rattle.tree.specs.Refusal.{Limits, markOk, versionOk, settingsOk, countOk, recordsOk, allTaken, shapeOk, treeOf, additionsOk, depthOk, refusal}
 use Rattle.tree.specs.Accepted.{Counted, counted-parts, counted-room, Rooted, rooted}
 use Rattle.file.specs.Answer.{refusedBy, acceptedWith, statedOf, checked}
 use Rattle.tree.specs.Walk.{Holds, Held}
 use Rattle.file.specs.Depth.{Low}
+use Rattle.file.specs.Symbols.{Whole}
 
 stated-as : (limits : Limits) (s : List ℕ) (k : ℕ) → refusal limits s ≡ k → statedOf k s ≡ checked limits s
 unfolding checked
@@ -86,10 +89,24 @@ module _ {limits : Limits} {s : List ℕ} {n : ℕ} (h : Headed limits s n) wher
         holds : Holds s 0 n (one (treeOf s))
         holds = record { stands = root .stands; sized = omega (arith, h .isN, root .sized) }
 
+        pub whole : Whole s n
+        unfolding wellFormed formed
+        whole = record {
+          inside = headed-inside;
+          stands = root .stands;
+          well = let t = treeOf s in let w = and-right (kind.isExpression (t .head .kind)) (nodeOk (t .head) (t .kids) && formed (t .kids)) (root .well) in
+              and-both (and-left (nodeOk (t .head) (t .kids)) (formed (t .kids)) w) (and-both (and-right (nodeOk (t .head) (t .kids)) (formed (t .kids)) w) refl);
+          sized = omega (arith, h .isN, root .sized);
+        }
+
+        pub refused-5-again : additionsOk s ≡ false → refusedBy 5 ≡ checked limits s
+        unfolding refusal
+        refused-5-again e = stated-as limits s 5 (rw (h .mark, h .version, h .settings, h .counted, recorded-all, taken-all, shape, e))
+
         pub held : Held s 0 n
         held = record { forest = one (treeOf s); holds = holds; inside = omega (arith, headed-inside) }
 
-        module _ (r : Bool) (low : Low s 0 n (limits .depth) r) where
+        module _ (additions : additionsOk s ≡ true) (r : Bool) (low : Low s 0 n (limits .depth) r) where
           depth-is : depthOk (limits .depth) s ≡ r
           unfolding depthOk
           depth-is =
@@ -98,9 +115,9 @@ module _ {limits : Limits} {s : List ℕ} {n : ℕ} (h : Headed limits s n) wher
 
           pub refused-8 : r ≡ false → refusedBy 8 ≡ checked limits s
           unfolding refusal
-          refused-8 e = stated-as limits s 8 (rw (h .mark, h .version, h .settings, h .counted, recorded-all, taken-all, shape, depth-is, e))
+          refused-8 e = stated-as limits s 8 (rw (h .mark, h .version, h .settings, h .counted, recorded-all, taken-all, shape, additions, depth-is, e))
 
           pub accepted-as : r ≡ true → acceptedWith (settingsOf s) n ≡ checked limits s
           unfolding refusal
           accepted-as e =
-              rw (h .isN) (stated-as limits s 0 (rw (h .mark, h .version, h .settings, h .counted, recorded-all, taken-all, shape, depth-is, e)))
+              rw (h .isN) (stated-as limits s 0 (rw (h .mark, h .version, h .settings, h .counted, recorded-all, taken-all, shape, additions, depth-is, e)))

@@ -82,7 +82,7 @@ fn child_count_ok(src: &[u8], i: usize) -> bool
 }
 
 // A choice that the compiler makes without a branch.
-fn pick(test: bool, yes: usize, no: usize) -> usize
+pub fn pick(test: bool, yes: usize, no: usize) -> usize
     ensures { λ r. ⌜ r ≡ cond test yes no ⌝ }
 {
     if test { yes } else { no }

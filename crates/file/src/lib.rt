@@ -2,6 +2,7 @@
 mod children;
 mod depth;
 mod record;
+mod symbols;
 
 ghost use mathlib.Core.Path.{_≡_};
 ghost use Prim.Native.Nat.{_<_};
@@ -83,6 +84,9 @@ pub fn check(src: &[u8], records: usize, depth: usize, logicals: bool) -> Checke
     }
     if !children::shape_ok(src, n) {
         return Checked::Refused(7);
+    }
+    if !symbols::additions_ok(src, n) {
+        return Checked::Refused(5);
     }
     if !depth::levels_ok(src, 0, n, depth) {
         return Checked::Refused(8);

@@ -1,4 +1,5 @@
 // Refusals 5 and 6: what a record may say by itself.
+use crate::children::pick;
 use fields::kind;
 ghost use mathlib.Core.Path.{_≡_};
 ghost use Prim.Native.Nat.{_+_, _<_, _≤_};
@@ -6,7 +7,7 @@ ghost use Rattle.tree.specs.Below.{allBelow};
 ghost use Rattle.tree.specs.Room.{recordsIn};
 ghost use Rattle.tree.specs.Fields.{headAt};
 ghost use Rattle.tree.specs.Record.{allowedFacts, pairsOk, factsOk, elementSubOk, subOk, recordOk, taken};
-ghost use Rattle.file.specs.Facts.{allowedTable};
+ghost use Rattle.file.specs.Facts.{allowedTable, neverKind};
 ghost use Rattle.file.specs.Bounds.{leastSub, mostSub};
 
 // The permitted fact bits of each kind, by its number: 1 is the flag, 31 the flag and both pairs, 127 these with annotated and
@@ -56,6 +57,16 @@ fn pairs_ok(facts: usize) -> bool
     (PAIRS_OK >> (facts / 2 % 16)) % 2 == 1
 }
 
+// A bit for each kind: template, unary and binary nodes may be such that they can never be a symbol.
+const NEVER_SYMBOL: usize = 0b1101_0000_0000_0000;
+
+fn never_kind(kind: usize) -> usize
+    requires { ⌜ kind < 23 ⌝ }
+    ensures { λ r. ⌜ r ≡ neverKind kind ⌝ }
+{
+    (NEVER_SYMBOL >> kind) % 2
+}
+
 fn facts_ok(src: &[u8], i: usize, table: &[u8; 23]) -> bool
     requires { ⌜ (i + 1 ≤ recordsIn (now src)) × (headAt (now src) i .kind < 23) × (now table ≡ allowedTable) ⌝ }
     ensures { λ r. ⌜ r ≡ factsOk (headAt (now (src .entry)) i) ⌝ }
@@ -69,6 +80,10 @@ fn facts_ok(src: &[u8], i: usize, table: &[u8; 23]) -> bool
     if pairs_ok(facts) {
         if kind == kind::LITERAL {
             return facts == 18;
+        }
+        // most records that are said to be symbols are of other kinds, so that this branch is seldom taken
+        if pick(facts / 2 % 4 == 2, never_kind(kind), 0) == 1 {
+            return !fields::never_symbol_alone(src, i);
         }
         return true;
     }

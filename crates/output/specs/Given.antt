@@ -6,7 +6,8 @@ use native.Mathlib.Omega.{arith}
 use Rattle.tree.specs.Tree.{Forest, Tree, trees, one, records, forest-trees}
 use Rattle.tree.specs.Room.{recordsIn}
 use Rattle.tree.specs.Stands.{Stands}
-use Rattle.readings.specs.Input.{Input}
+use Rattle.readings.specs.Node.{SomeNode}
+use Rattle.readings.specs.Input.{Input, input-node}
 use Rattle.readings.specs.Split.{some-size}
 use Rattle.output.specs.Records.{MovedRecords}
 use Rattle.output.specs.Trees.{Wrote, CopiedTree, stands-copied}
@@ -28,6 +29,9 @@ pub record GivenTree (s : List ℕ) (at size pos room : ℕ) : Type 0 where
 module _ {s : List ℕ} {at size pos : ℕ} where
   pub given-inside : {room : ℕ} → GivenTree s at size pos room → at + 1 ≤ recordsIn s
   given-inside g = omega (arith, g .input .inside, some-size (g .input))
+
+  pub given-node : {room : ℕ} → GivenTree s at size pos room → SomeNode s at
+  given-node g = record { tree = g .tree; node = input-node (g .input) }
 
   module _ {old new : List ℕ} {depth : ℕ} where
     pub copied-wrote : {r : ℕ} (t : Tree) → Input s at size depth (one t) → CopiedTree s at size old new pos r → Wrote old new pos r (t ∷ [])

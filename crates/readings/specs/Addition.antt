@@ -4,16 +4,10 @@ use mathlib.Core.Bool.{true}
 use mathlib.Core.List.{List}
 use Prim.Native.Nat.{ℕ, _+_, _-_}
 use native.Mathlib.Omega.{arith}
-use lib.Dec.{eqb}
-use borrow.Author.Tests.{eqb-true}
 use Rattle.tree.specs.Tree.{Forest, nil, node, Tree, trees, one, count}
-use Rattle.tree.specs.Below.{and-left}
-use Rattle.tree.specs.Children.{childCountOk}
 use Rattle.tree.specs.Fields.{subtreeAt}
-use Rattle.tree.specs.Stands.{node-parts}
-use Rattle.tree.specs.Kind as kind
-use Rattle.rules.specs.Handler.{isKind, isAddition}
-use Rattle.rules.specs.Proofs.Addition.{Sides}
+use Rattle.tree.specs.Stands.{two-sides}
+use Rattle.tree.specs.Symbol.{isAddition, Sides}
 use Rattle.readings.specs.Input.{Input}
 use Rattle.readings.specs.Split.{first-node, first-input, rest-input, kids-input}
 
@@ -26,14 +20,11 @@ pub record SidesAt (s : List ℕ) (at size depth : ℕ) (t : Tree) : Type 0 wher
   pub sized : size ≡ 1 + subtreeAt s (at + 1) + subtreeAt s (at + 1 + subtreeAt s (at + 1))
 
 pub sides-at : {s : List ℕ} {at size depth : ℕ} (t : Tree) → isAddition t ≡ true → Input s at size depth (one t) → SidesAt s at size depth t
-unfolding isAddition isKind childCountOk
+unfolding isAddition
 sides-at {s} {at} {size} {depth} t a i = go (t .kids) refl
   where
     two : count (t .kids) ≡ 2
-    two =
-        let k = eqb-true (t .head .kind) kind.binary (and-left (eqb (t .head .kind) kind.binary) (eqb (t .head .sub) 2) a) in
-        let c : eqb (count (t .kids)) 2 ≡ true = rw k at (node-parts (t .head) (t .kids) (first-node i) .counted) in
-        eqb-true (count (t .kids)) 2 c
+    two = two-sides (t .head) (t .kids) a (first-node i)
 
     go : (f : Forest) → t .kids ≡ f → SidesAt s at size depth t
     go nil e = absurd (omega (arith, two, ap count e))

@@ -6,6 +6,7 @@ pub mod First
 pub mod Children
 pub mod Sequence
 pub mod Class
+pub mod Symbol
 pub mod Input
 pub mod Split
 pub mod Test

@@ -3,9 +3,8 @@ use mathlib.Core.Path.{_≡_}
 use mathlib.Core.Bool.{Bool}
 use mathlib.Core.List.{List, []}
 use Prim.Native.Nat.{ℕ, _+_, _≤_}
-use Rattle.tree.specs.Tree.{Head, nil, Tree, one, size}
+use Rattle.tree.specs.Tree.{Tree, one, size}
 use Rattle.tree.specs.Room.{recordsIn}
-use Rattle.tree.specs.Fields.{headAt}
 use Rattle.tree.specs.Stands.{Stands}
 use Rattle.rules.specs.Settings.{Settings}
 
@@ -15,13 +14,6 @@ settingsGiven places byte = record { byte = byte; yes = places }
 
 abbrev pub settingsWith : ℕ → Settings
 settingsWith byte = settingsGiven [] byte
-
--- A node by its own record alone, and that of record i: what is asked of a record is asked of this.
-abbrev pub alone : Head → Tree
-alone h = record { head = h; kids = nil }
-
-abbrev pub nodeAt : List ℕ → ℕ → Tree
-nodeAt s i = alone (headAt s i)
 
 pub record Node (s : List ℕ) (i : ℕ) (t : Tree) : Type 0 where
   pub stands : Stands s i (one t)

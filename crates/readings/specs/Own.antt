@@ -3,11 +3,12 @@ use mathlib.Core.Path.{_≡_, refl, ap, _∙_}
 use mathlib.Core.Bool.{Bool}
 use mathlib.Core.List.{List}
 use Prim.Native.Nat.{ℕ}
-use Rattle.tree.specs.Tree.{Head, Tree}
-use Rattle.rules.specs.Handler.{isKind, isAddition}
-use Rattle.rules.specs.Facts.{flagged, possibleSymbol, stringFact}
+use Rattle.tree.specs.Tree.{Head, Tree, alone}
+use Rattle.tree.specs.Fields.{nodeAt}
+use Rattle.tree.specs.Symbol.{isAddition, stringFact}
+use Rattle.rules.specs.Facts.{flagged}
 use Rattle.rules.specs.Class.{decoratedClass, hasStaticValue, nonemptyStaticBlock, decoratedElement, indexSignature}
-use Rattle.readings.specs.Node.{alone, nodeAt, Tells}
+use Rattle.readings.specs.Node.{Tells}
 
 module _ {s : List ℕ} {i : ℕ} {r : Bool} where
   tells-own : (p : Tree → Bool) → ((t : Tree) → p (alone (t .head)) ≡ p t) → r ≡ p (nodeAt s i) → Tells s i p r
@@ -17,16 +18,12 @@ module _ {s : List ℕ} {i : ℕ} {r : Bool} where
   unfolding flagged
   tells-flagged = tells-own flagged (λ t. refl)
 
-  pub tells-possible-symbol : r ≡ possibleSymbol (nodeAt s i) → Tells s i possibleSymbol r
-  unfolding possibleSymbol
-  tells-possible-symbol = tells-own possibleSymbol (λ t. refl)
-
   pub tells-string-fact : r ≡ stringFact (nodeAt s i) → Tells s i stringFact r
   unfolding stringFact
   tells-string-fact = tells-own stringFact (λ t. refl)
 
   pub tells-addition : r ≡ isAddition (nodeAt s i) → Tells s i isAddition r
-  unfolding isAddition isKind
+  unfolding isAddition
   tells-addition = tells-own isAddition (λ t. refl)
 
   pub tells-decorated-class : r ≡ decoratedClass (nodeAt s i) → Tells s i decoratedClass r

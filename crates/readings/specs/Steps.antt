@@ -14,10 +14,9 @@ use Rattle.tree.specs.Fields.{headAt, childrenAt}
 use Rattle.tree.specs.Stands.{Stands}
 use Rattle.rules.specs.Lists.{any}
 use Rattle.rules.specs.Settings.{annotations, countsAsYes}
-use Rattle.rules.specs.Handler.{isKind, firstIs, isAddition}
+use Rattle.rules.specs.Handler.{isKind, firstIs}
 use Rattle.rules.specs.Facts.{annotated, listed, pureNew, testIsYes}
-use Rattle.tree.specs.Kind as kind
-use Rattle.readings.specs.Node.{settingsGiven, settingsWith, alone, SomeNode, Tells}
+use Rattle.readings.specs.Node.{settingsGiven, settingsWith, SomeNode, Tells}
 
 -- What is said of the head that was read is said of the tree's.
 tells-head : {s : List ℕ} {i : ℕ} (p : Head → Bool) {r : Bool} → r ≡ p (headAt s i) → Tells s i (λ t. p (t .head)) r
@@ -126,13 +125,3 @@ module _ {x y : ℕ} (e : x ≡ y) (p q : ℕ → Bool) where
 
   pub first-fails : p x ≡ false → false ≡ (p y && q y)
   first-fails h = sym (ap (λ (b : Bool). b && q y) (ap p (sym e) ∙ h))
-
--- The tests of a record for an addition, by the kind k of its head h.
-module _ (h : Head) (k : ℕ) (ek : k ≡ h .kind) where
-  pub no-addition : (k ≡ kind.binary → ⊥) → false ≡ isAddition (alone h)
-  unfolding isAddition isKind
-  no-addition n = sym (ap (λ (w : Bool). w && eqb (h .sub) 2) (ne-eqb (h .kind) kind.binary (λ e. n (ek ∙ e))))
-
-  pub addition-by-sub : k ≡ kind.binary → (u : ℕ) → u ≡ h .sub → eqb u 2 ≡ isAddition (alone h)
-  unfolding isAddition isKind
-  addition-by-sub e u eu = ap (λ (z : ℕ). eqb z 2) eu ∙ sym (ap (λ (w : Bool). w && eqb (h .sub) 2) (eq-eqb (h .kind) kind.binary (sym ek ∙ e)))

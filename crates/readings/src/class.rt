@@ -2,10 +2,11 @@
 ghost use mathlib.Core.Path.{_≡_};
 ghost use Prim.Native.Nat.{_+_, _≤_};
 ghost use Rattle.tree.specs.Room.{recordsIn};
+ghost use Rattle.tree.specs.Fields.{nodeAt};
 ghost use Rattle.rules.specs.Lists.{any};
 ghost use Rattle.rules.specs.Class.{decoratedClass, hasStaticValue, nonemptyStaticBlock, decoratedElement, indexSignature, flaggedStaticValue, elements, arrowHeritage, keptClass};
 ghost use Rattle.rules.specs.Effects.{classIsEffect};
-ghost use Rattle.readings.specs.Node.{nodeAt, SomeNode, Tells};
+ghost use Rattle.readings.specs.Node.{SomeNode, Tells};
 ghost use Rattle.readings.specs.Walk.{ListAt};
 ghost use Rattle.readings.specs.Class.{hasHeritage, keepsClass};
 

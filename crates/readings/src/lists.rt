@@ -64,7 +64,7 @@ fn only_possible_symbols(src: &[u8], i: usize) -> bool
     let end = i + fields::subtree_at(src, i);
     let mut p = i + 1;
     while p < end {
-        if !crate::facts::possible_symbol_at(src, p) {
+        if !crate::symbol::possible_symbol_at(src, p) {
             return false;
         }
         p += fields::subtree_at(src, p);

@@ -2,7 +2,7 @@
 use fields::kind;
 ghost use Prim.Native.Nat.{_+_, _≤_};
 ghost use Rattle.tree.specs.Room.{recordsIn};
-ghost use Rattle.readings.specs.Node.{Tells};
+ghost use Rattle.readings.specs.Node.{SomeNode, Tells};
 ghost use Rattle.reducer.specs.Walked.{waits, wraps};
 ghost use Rattle.reducer.specs.Settled.{GivenSettled, SettlesKept, GivenSettle, Settles};
 
@@ -24,7 +24,7 @@ pub struct Walked {
 }
 
 pub fn waits_at(src: &[u8], at: usize, part: Part) -> bool
-    requires { ⌜ at + 1 ≤ recordsIn (now src) ⌝ }
+    requires { ⌜ SomeNode (now src) at ⌝ }
     ensures { λ r. ⌜ Tells (now (src .entry)) at (waits part) r ⌝ }
 {
     match part {

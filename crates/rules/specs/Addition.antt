@@ -1,10 +1,9 @@
 -- `fold_string_addition_chain`. "The fold goes down left children only."
 use mathlib.Core.Bool.{Bool, cond, not, _&&_}
 use mathlib.Core.List.{List, [], _∷_}
-use Rattle.tree.specs.Tree.{Tree, Paired, recur}
-use Rattle.rules.specs.Lists.{ofTwo}
-use Rattle.rules.specs.Handler.{isAddition}
-use Rattle.rules.specs.Facts.{flagged, clear, possibleSymbol, stringFact, isString}
+use Rattle.tree.specs.Tree.{Tree, Paired, recur, ofTwo}
+use Rattle.tree.specs.Symbol.{isAddition, stringFact, isString}
+use Rattle.rules.specs.Facts.{flagged, clear, possibleSymbol}
 use Rattle.rules.specs.Made.{placeOf, emptyLiteral, withChildren}
 
 -- "an unflagged left becomes the empty literal at its own place", "a right side that is .. unflagged becomes the empty literal"

@@ -3,11 +3,12 @@ use mathlib.Core.Bool.{Bool, cond, _||_}
 use mathlib.Core.List.{List, [], _++_}
 use Prim.Native.Nat.{ℕ, _+_, _*_}
 use lib.ListN.{drop}
-use Rattle.tree.specs.Tree.{Tree, Paired, recur}
-use Rattle.rules.specs.Lists.{any, keepIf, concatMap, ofTwo}
+use Rattle.tree.specs.Tree.{Tree, Paired, recur, ofTwo}
+use Rattle.tree.specs.Symbol.{stringFact, isString}
+use Rattle.rules.specs.Lists.{any, keepIf, concatMap}
 use Rattle.rules.specs.Settings.{Settings, derived}
 use Rattle.rules.specs.Handler.{Handler, handler}
-use Rattle.rules.specs.Facts.{flagged, possibleSymbol, stringFact, isString, ofIdentifier, pureNew, pureCall, testIsYes}
+use Rattle.rules.specs.Facts.{flagged, possibleSymbol, ofIdentifier, pureNew, pureCall, testIsYes}
 use Rattle.rules.specs.Conditional.{testOf, armsOf, consequentOf, alternateOf}
 use Rattle.rules.specs.Class.{heritageOf, elementsOf, keyOf, staticValueOf, elements, decoratedClass, decoratedElement, nonemptyStaticBlock, arrowHeritage}
 

@@ -1,14 +1,14 @@
 -- What a node's record says, and what that says of the node: each reading of 01 named once. Reducing, listing and the premise all
 -- read a node by these names.
-use mathlib.Core.Bool.{Bool, cond, not, _&&_, _||_}
-use mathlib.Core.List.{List}
+use mathlib.Core.Bool.{Bool, not, _&&_, _||_}
 use Prim.Native.Nat.{_%_}
 use lib.Dec.{eqb}
-use Rattle.tree.specs.Tree.{Tree, trees, Paired, recur}
-use Rattle.tree.specs.Record.{bitSet, symbolPair, stringPair}
-use Rattle.rules.specs.Lists.{isEmpty, any, every, ofTwo}
+use Rattle.tree.specs.Tree.{Tree, trees}
+use Rattle.tree.specs.Record.{bitSet, symbolPair}
+use Rattle.tree.specs.Symbol.{neverSymbol}
+use Rattle.rules.specs.Lists.{isEmpty, any, every}
 use Rattle.rules.specs.Settings.{Settings, annotations, treeShakeOnly, countsAsYes}
-use Rattle.rules.specs.Handler.{isIdentifier, isFunction, isSpread, isAddition, firstIs}
+use Rattle.rules.specs.Handler.{isIdentifier, isFunction, isSpread, firstIs}
 
 -- "bit 0 effect flag"
 unfoldable pub flagged : Tree → Bool
@@ -17,21 +17,9 @@ flagged t = eqb (t .head .facts % 2) 1
 abbrev pub clear : Tree → Bool
 clear t = not (flagged t)
 
--- "3–4 string (0 unknown, 1 no, 2 yes)"
-unfoldable pub stringFact : Tree → Bool
-stringFact t = eqb (stringPair (t .head .facts)) 2
-
--- "An addition on the left is a string if its left or its right is; any other side by its string fact."
-unfoldable pub isStringRule : Tree → List (Paired Bool) → Bool
-isStringRule t sides =
-    cond (isAddition t) (ofTwo (λ l r. l .result || stringFact (r .tree)) (stringFact t) sides) (stringFact t)
-
-unfoldable pub isString : Tree → Bool
-isString t = recur isStringRule t
-
--- "1–2 symbol", "'Possible symbol': not 1"
+-- "1–2 symbol", "'Possible symbol': not 1"; 02, N9: "Reducing and listing now read "no" for these six, recorded or not"
 unfoldable pub possibleSymbol : Tree → Bool
-possibleSymbol t = not (eqb (symbolPair (t .head .facts)) 1)
+possibleSymbol t = not (neverSymbol t || eqb (symbolPair (t .head .facts)) 1)
 
 -- "5 annotated, 6 listed, 7 summary free"
 unfoldable pub annotated : Tree → Bool

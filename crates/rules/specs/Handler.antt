@@ -1,5 +1,5 @@
 -- Which rule takes a node: by its kind and, of a unary or a binary, its sub.
-use mathlib.Core.Bool.{Bool, cond, _&&_, _||_}
+use mathlib.Core.Bool.{Bool, cond, _||_}
 use Prim.Native.Nat.{ℕ}
 use lib.Dec.{eqb}
 use lib.ListN.{take}
@@ -68,9 +68,6 @@ isSpread t = isKind kind.spread t
 
 abbrev pub isSequence : Tree → Bool
 isSequence t = isKind kind.sequence t
-
-unfoldable pub isAddition : Tree → Bool
-isAddition t = isKind kind.binary t && eqb (t .head .sub) 2
 
 -- Whether the argument of a unary, or the callee of a call or new, is such a node.
 abbrev pub firstIs : (Tree → Bool) → Tree → Bool

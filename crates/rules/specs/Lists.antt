@@ -26,10 +26,3 @@ module _ {A : Type 0} where
 
   abbrev pub filter : (A → Bool) → List A → List A
   filter p xs = concatMap (λ x. keepIf (p x) x) xs
-
-  -- f of the two members of a list of two; `other` of any other list, which no accepted addition has for its children.
-  abbrev pub ofTwo : {B : Type 0} → (A → A → B) → B → List A → B
-  ofTwo f other [] = other
-  ofTwo f other (x ∷ []) = other
-  ofTwo f other (x ∷ y ∷ []) = f x y
-  ofTwo f other (x ∷ y ∷ z ∷ zs) = other

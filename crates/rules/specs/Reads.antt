@@ -6,11 +6,12 @@ use mathlib.Core.Bool.{cond, not, _&&_}
 use mathlib.Core.List.{List, [], _∷_, _++_}
 use mathlib.Core.Path.{_≡_}
 use lib.ListN.{drop}
-use Rattle.tree.specs.Tree.{Tree, trees, Paired, recur, All}
-use Rattle.rules.specs.Lists.{keepIf, concatMap, filter, ofTwo}
+use Rattle.tree.specs.Tree.{Tree, trees, Paired, recur, All, ofTwo}
+use Rattle.tree.specs.Symbol.{isAddition, stringFact, isString}
+use Rattle.rules.specs.Lists.{keepIf, concatMap, filter}
 use Rattle.rules.specs.Settings.{Settings}
-use Rattle.rules.specs.Handler.{Handler, handler, isSpread, isAddition}
-use Rattle.rules.specs.Facts.{flagged, clear, possibleSymbol, stringFact, isString, ofIdentifier, pureNew, pureCall, hasSideEffectsOrPreservedIife, unchangedTemplate, onlySpreads, flaggedChild}
+use Rattle.rules.specs.Handler.{Handler, handler, isSpread}
+use Rattle.rules.specs.Facts.{flagged, clear, possibleSymbol, ofIdentifier, pureNew, pureCall, hasSideEffectsOrPreservedIife, unchangedTemplate, onlySpreads, flaggedChild}
 use Rattle.rules.specs.Addition.{isDroppedRight, foldStringAdditionChain}
 use Rattle.rules.specs.Class.{heritage, elements, computedKey, staticValue, keptClass}
 use Rattle.rules.specs.Conditional.{armsOf}

@@ -6,6 +6,8 @@ use Prim.Native.Nat.{ℕ, _+_, _*_}
 use Rattle.tree.specs.Tree.{Head, Tree, forest, size, records}
 use Rattle.tree.specs.Tree as tree
 use Rattle.tree.specs.Kind as kind
+use Rattle.tree.specs.Record as rec
+use Rattle.tree.specs.Symbol as symbol
 use Rattle.rules.specs.Settings.{Settings}
 use Rattle.rules.specs.Settings
 use Rattle.rules.specs.Handler
@@ -46,6 +48,10 @@ choice facts q c a = node kind.conditional facts 0 0 1 (q ∷ c ∷ a ∷ [])
 
 abbrev not : ℕ → Tree
 not place = node kind.unary 0 2 0 place (identifier (place + 1) ∷ [])
+
+-- `a + (b + "s")`
+abbrev right : Tree
+right = node kind.binary 0 2 0 2 (identifier 2 ∷ node kind.binary 0 2 0 6 (identifier 6 ∷ node kind.literal 18 0 8 10 [] ∷ []) ∷ [])
 
 pub record Row : Type 0 where
   pub from : Tree
@@ -89,6 +95,12 @@ rows =
     }
     -- L `new x()`, unflagged, impure: kept
     ∷ record { from = node kind.new 0 0 0 1 (identifier 5 ∷ []); to = node kind.new 0 0 0 1 (identifier 5 ∷ []) ∷ [] }
+    -- 02, N9, symbols unknown: of `${f() < x}${"a" + x + 1}` no child waits, so `f()`; of `a + (b + "s")` the right side is no string
+    ∷ record {
+      from = node kind.template 1 0 0 1 (node kind.binary 1 1 0 2 (call 1 2 ∷ identifier 8 ∷ []) ∷ node kind.binary 0 2 0 9 (node kind.binary 0 2 0 9 (node kind.literal 18 0 8 9 [] ∷ identifier 13 ∷ []) ∷ number 15 ∷ []) ∷ []);
+      to = call 1 2 ∷ [];
+    }
+    ∷ record { from = node kind.template 1 0 0 1 (right ∷ []); to = node kind.template 1 0 0 1 (right ∷ []) ∷ [] }
     -- 02, N1: `!x ? f() : 1`: `!x && f()`, its test unreduced; `!x ? 1 : f()`: `!x || f()`
     ∷ record { from = choice 1 (not 2) (call 1 7) (number 13); to = node kind.logical 1 1 0 1 (not 2 ∷ call 1 7 ∷ []) ∷ [] }
     ∷ record { from = choice 1 (not 2) (number 7) (call 1 13); to = node kind.logical 1 2 0 1 (not 2 ∷ call 1 13 ∷ []) ∷ [] }
@@ -105,7 +117,8 @@ rows =
 
 pub rows-hold : map (λ r. reduce settings (r .from)) rows ≡ map (λ r. r .to) rows
 unfolding reduce tree.recur tree.each Settings.annotations Settings.treeShakeOnly Settings.derived Handler.handler
-    Handler.isKind Handler.isAddition Facts.flagged Facts.stringFact Facts.isStringRule Facts.isString Facts.possibleSymbol
+    Handler.isKind symbol.isAddition symbol.stringFact symbol.isStringRule symbol.isString symbol.isStringAddition symbol.neverSymbol
+    rec.isVoidNotOrTypeof rec.isComparison rec.neverSymbolAlone Facts.flagged Facts.possibleSymbol
     Facts.annotated Facts.listed Facts.summaryFree Facts.pureNew Facts.pureCall Facts.hasSideEffectsOrPreservedIife
     Facts.ofIdentifier Facts.unchangedTemplate Facts.onlySpreads Facts.flaggedChild Made.flagOf Made.makeSequence
     Made.makeArray Made.makeObject Made.makeTemplate Made.makeLogical Made.emptyLiteral Made.withChildren Made.joinSequence

@@ -1,19 +1,22 @@
 -- What is shown of reducing and listing, over all trees, facts and settings. A theorem assumes what it names, and no more.
-use mathlib.Core.Bool.{Bool, true, false, cond}
+use mathlib.Core.Bool.{Bool, true, false, cond, not}
 use mathlib.Core.List.{List, [], _∷_, _++_, map}
 use mathlib.Core.Path.{_≡_, sym, _∙_, ap}
 use Prim.Native.Nat.{ℕ, suc, _*_, _-_, _≤_, _<_}
 use native.Mathlib.Nat.{le-trans}
 use native.Mathlib.Omega.{arith}
+use lib.Dec.{eqb}
 use lib.ListN.{length}
 use Rattle.tree.specs.Tree.{Tree, trees, forest, one, records, levels, size, depth, All}
+use Rattle.tree.specs.Record.{symbolPair}
+use Rattle.tree.specs.Symbol.{neverSymbol, additionsAgree}
 use Rattle.tree.specs.Children.{wellFormed}
 use Rattle.tree.specs.File.{allEncodable}
 use Rattle.tree.specs.Refusal.{Limits, reduceLimits, listEffectsLimits}
 use Rattle.tree.specs.Accepted.{Permitted, logicals-taken}
 use Rattle.rules.specs.Settings.{Settings, given}
 use Rattle.rules.specs.Handler.{handler}
-use Rattle.rules.specs.Facts.{flagged}
+use Rattle.rules.specs.Facts.{flagged, possibleSymbol}
 use Rattle.rules.specs.Reduce.{reduce}
 use Rattle.rules.specs.Effects.{effects, effectsOf}
 use Rattle.rules.specs.Reads.{reads, Premise}
@@ -79,12 +82,16 @@ module _ (s : Settings) (t : Tree) where
     pub at-most-one : length (reduce s t) ≤ 1
     at-most-one = single.at-most-one s t (accepted t well-formed)
 
-    -- What is kept is well-formed, and its fields fit their bytes if the tree's do.
+    -- What is kept is well-formed; its fields fit their bytes if the tree's do; and 02, N9, no addition with a string part records "yes"
+    -- if none of the tree's does.
     pub kept-well-formed : All (λ u. wellFormed u ≡ true) (reduce s t)
     kept-well-formed = kept.kept-well-formed s t well-formed
 
     pub kept-encodable : allEncodable (one t) ≡ true → allEncodable (forest (reduce s t)) ≡ true
     kept-encodable = kept.kept-encodable s t well-formed
+
+    pub kept-agrees : additionsAgree (one t) ≡ true → additionsAgree (forest (reduce s t)) ≡ true
+    kept-agrees = kept.kept-agrees s t well-formed
 
   -- The kept answer of a permitted tree is permitted within limits of 2 × N − 1 records and one level more, "header settings copied".
   pub kept-permitted : (limits : Limits) → Permitted limits (s .byte) t → (u : Tree) → reduce s t ≡ u ∷ [] → Permitted (keptLimits limits) (s .byte) u
@@ -95,6 +102,7 @@ module _ (s : Settings) (t : Tree) where
         settings-ok = p .settings-ok;
         well = (rw e at (kept-well-formed (p .well))) .0;
         is-taken = logicals-taken (one u);
+        agrees = rw e at (kept-agrees (p .well) (p .agrees));
         fits = rw e at (kept-encodable (p .well) (p .fits));
         few = omega (arith, records-le, p .few);
         low = omega (arith, levels-le, p .low);
@@ -103,6 +111,15 @@ module _ (s : Settings) (t : Tree) where
   -- So List effects accepts what Reduce keeps: 2,000 records and 64 levels become 3,999 and 65.
   pub kept-within : Permitted reduceLimits (s .byte) t → (u : Tree) → reduce s t ≡ u ∷ [] → Permitted listEffectsLimits (s .byte) u
   kept-within = kept-permitted reduceLimits
+
+  -- 02, N9: "Reducing and listing now read "no" for these six, recorded or not", and every other node as it is recorded.
+  pub never-possible : neverSymbol t ≡ true → possibleSymbol t ≡ false
+  unfolding possibleSymbol
+  never-possible e = rw e
+
+  pub as-recorded : neverSymbol t ≡ false → possibleSymbol t ≡ not (eqb (symbolPair (t .head .facts)) 1)
+  unfolding possibleSymbol
+  as-recorded e = rw e
 
   -- "10 under 2 × N entries lent": a list is always shorter.
   pub few-effects : length (effects s t) < 2 * size t

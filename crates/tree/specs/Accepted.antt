@@ -10,15 +10,16 @@ use lib.Dec.{eqb, leb}
 use lib.ListN.{length, getD, drop, drop-of-length-le}
 use borrow.Author.Tests.{eqb-true, eq-eqb, leb-true, le-leb, ltb-true, lt-ltb}
 use Rattle.le.specs.Le.{u16At}
-use Rattle.tree.specs.Tree.{Head, Forest, nil, node, Tree, one, allHeads, records, size, depth}
+use Rattle.tree.specs.Tree.{Head, Forest, nil, node, Tree, one, allHeads, records, size, depth, allNodes}
 use Rattle.tree.specs.Below.{allBelow, and-both, and-left, and-right, all-at, all-of}
 use Rattle.tree.specs.Record.{recordOk, included, logicalTaken, taken}
+use Rattle.tree.specs.Symbol.{additionsAgree}
 use Rattle.tree.specs.Children.{nodeOk, formed, wellFormed}
 use Rattle.tree.specs.File.{preorder, le16, bytes, header, fileBytes, allEncodable}
 use Rattle.tree.specs.Fields.{versionOf, settingsOf, countOf, headAt, subtreeAt}
 use Rattle.tree.specs.Layout.{headerBytes, start}
 use Rattle.tree.specs.Room.{recordsIn, start-first, start-le, has-room}
-use Rattle.tree.specs.Refusal.{Limits, markOk, versionOk, settingsOk, countOk, recordsOk, allTaken, shapeAt, shapeOk, decode, treeOf, depthOk, unless, refusal}
+use Rattle.tree.specs.Refusal.{Limits, markOk, versionOk, settingsOk, countOk, recordsOk, allTaken, shapeAt, shapeOk, decode, treeOf, additionsOk, depthOk, unless, refusal}
 use Rattle.tree.specs.Stands.{Stands, Tested, decoded-root, decode-stands, tested-of, heads-stand, heads-at}
 use Rattle.tree.specs.Encoding.{Bytes, length-file, drop-next, drop-u16, bytes-stand, encodable-stand, stand-bytes, file-bytes}
 use Rattle.tree.specs.Kind as kind
@@ -32,6 +33,7 @@ pub record Passed (limits : Limits) (s : List ℕ) : Type 0 where
   pub recorded : recordsOk s ≡ true
   pub is-taken : allTaken (limits .logicals) s ≡ true
   pub shape : shapeOk s ≡ true
+  pub additions : additionsOk s ≡ true
   pub low : depthOk (limits .depth) s ≡ true
 
 unless-ok : (b : Bool) (n r : ℕ) → unless b (suc n) r ≡ 0 → b ≡ true
@@ -46,7 +48,8 @@ pub passed : (limits : Limits) (s : List ℕ) → refusal limits s ≡ 0 → Pas
 unfolding refusal
 passed limits s e =
     let r8 = unless (depthOk (limits .depth) s) 8 0 in
-    let r7 = unless (shapeOk s) 7 r8 in
+    let r5′ = unless (additionsOk s) 5 r8 in
+    let r7 = unless (shapeOk s) 7 r5′ in
     let r6 = unless (allTaken (limits .logicals) s) 6 r7 in
     let r5 = unless (recordsOk s) 5 r6 in
     let r4 = unless (countOk (limits .records) s) 4 r5 in
@@ -58,7 +61,8 @@ passed limits s e =
     let e5 = unless-next (countOk (limits .records) s) 3 r5 e4 in
     let e6 = unless-next (recordsOk s) 4 r6 e5 in
     let e7 = unless-next (allTaken (limits .logicals) s) 5 r7 e6 in
-    let e8 = unless-next (shapeOk s) 6 r8 e7 in
+    let e5′ = unless-next (shapeOk s) 6 r5′ e7 in
+    let e8 = unless-next (additionsOk s) 4 r8 e5′ in
     record {
       mark = unless-ok (markOk s) 0 r2 e;
       version = unless-ok (versionOk s) 1 r3 e2;
@@ -66,14 +70,15 @@ passed limits s e =
       counted = unless-ok (countOk (limits .records) s) 3 r5 e4;
       recorded = unless-ok (recordsOk s) 4 r6 e5;
       is-taken = unless-ok (allTaken (limits .logicals) s) 5 r7 e6;
-      shape = unless-ok (shapeOk s) 6 r8 e7;
+      shape = unless-ok (shapeOk s) 6 r5′ e7;
+      additions = unless-ok (additionsOk s) 4 r8 e5′;
       low = unless-ok (depthOk (limits .depth) s) 7 0 e8;
     }
 
 unrefused : (limits : Limits) (s : List ℕ) → Passed limits s → refusal limits s ≡ 0
 unfolding refusal
 unrefused limits s p =
-    rw (p .mark, p .version, p .settings, p .counted, p .recorded, p .is-taken, p .shape, p .low)
+    rw (p .mark, p .version, p .settings, p .counted, p .recorded, p .is-taken, p .shape, p .additions, p .low)
 
 -- The tests of the count, taken apart.
 pub record Counted (maxRecords : ℕ) (s : List ℕ) : Type 0 where
@@ -191,18 +196,20 @@ header-is s bs w v =
     ∙ ap (λ (r : List ℕ). settingsOf s ∷ r) (drop-u16 s bs 6 8 (countOf s) (omega (arith, m .long)) refl refl)))))
 
 -- A tree that a file may hold, with settings and within limits: it is well-formed (refusals 5 to 7), with logical nodes only where they
--- are taken (6), its fields fit their bytes, and it has at most so many records (4) and levels (8).
+-- are taken (6), no addition with a string part is said to be a symbol (5 again), its fields fit their bytes, and it has at most so many
+-- records (4) and levels (8).
 pub record Permitted (limits : Limits) (settings : ℕ) (t : Tree) : Type 0 where
   pub settings-ok : settings < 8
   pub well : wellFormed t ≡ true
   pub is-taken : allHeads (logicalTaken (limits .logicals)) (one t) ≡ true
+  pub agrees : additionsAgree (one t) ≡ true
   pub fits : allEncodable (one t) ≡ true
   pub few : size t ≤ limits .records
   pub low : depth t ≤ limits .depth
 
 -- An operation that takes logical nodes takes every tree so far.
 pub logicals-taken : (f : Forest) → allHeads (logicalTaken true) f ≡ true
-unfolding allHeads logicalTaken
+unfolding allNodes logicalTaken
 logicals-taken nil = refl
 logicals-taken (node h cs rest) = and-both refl (and-both (logicals-taken cs) (logicals-taken rest))
 
@@ -215,7 +222,7 @@ pub record Accepted (limits : Limits) (s : List ℕ) : Type 0 where
 
 -- What is accepted is the bytes of a permitted tree.
 pub accepted : (limits : Limits) (s : List ℕ) → Bytes s → refusal limits s ≡ 0 → Accepted limits s
-unfolding settingsOk depthOk fileBytes
+unfolding settingsOk additionsOk depthOk fileBytes
 accepted limits s bs e =
     let p = passed limits s e in
     let k = counted-parts (limits .records) s (p .counted) in
@@ -233,6 +240,7 @@ accepted limits s bs e =
         settings-ok = ltb-true (settingsOf s) 8 (p .settings);
         well = r .well;
         is-taken = r .is-taken;
+        agrees = p .additions;
         fits = encodable-stand s bs (one (treeOf s)) 0 (r .stands);
         few = omega (arith, r .sized, k .few);
         low = leb-true (depth (treeOf s)) (limits .depth) (p .low);
@@ -295,6 +303,10 @@ module _ (settings : ℕ) (t : Tree) where
       and-both (and-both (le-leb 1 (countOf s) (omega (arith, n))) (le-leb (countOf s) maxRecords (omega (arith, n))))
       (eq-eqb (length s) (start (countOf s)) (length-is ∙ ap start (sym n)))
 
+  additions-are : additionsAgree (one t) ≡ true → additionsOk s ≡ true
+  unfolding additionsOk s
+  additions-are h = rw holds-tree h
+
   low-is : (maxDepth : ℕ) → depth t ≤ maxDepth → depthOk maxDepth s ≡ true
   unfolding depthOk s
   low-is maxDepth l = rw holds-tree (le-leb (depth t) maxDepth l)
@@ -340,6 +352,7 @@ module _ (settings : ℕ) (t : Tree) where
     recorded = records-are (p .well);
     is-taken = taken-are (p .well) (limits .logicals) (p .is-taken);
     shape = shape-is (p .well);
+    additions = additions-are (p .agrees);
     low = low-is (limits .depth) (p .low);
   })
 
@@ -377,5 +390,6 @@ wider low high r d g s e =
       recorded = p .recorded;
       is-taken = taken-wider (low .logicals) (high .logicals) g s (p .is-taken);
       shape = p .shape;
+      additions = p .additions;
       low = le-leb (depth (treeOf s)) (high .depth) (omega (arith, leb-true (depth (treeOf s)) (low .depth) (p .low)));
     }

@@ -11,7 +11,7 @@ use lib.ListN.{length, getD, drop, length-append}
 use lib.Seq.{drop-cons, getD-drop, drop-drop, drop-at}
 use borrow.Author.Tests.{lt-ltb, ltb-true}
 use Rattle.le.specs.Le.{u16At, u32At}
-use Rattle.tree.specs.Tree.{Place, Head, Forest, nil, node, Tree, All, one, count, records, size}
+use Rattle.tree.specs.Tree.{Place, Head, Forest, nil, node, Tree, All, one, count, records, size, allNodes}
 use Rattle.tree.specs.Below.{and-both, and-left, and-right}
 use Rattle.tree.specs.File.{Rec, preorder, le16, le32, placeBytes, recordBytes, bytes, fileBytes, placeFits, encodable, allEncodable}
 use Rattle.tree.specs.Offset as offset
@@ -108,7 +108,7 @@ module _ (s : List ℕ) (bs : Bytes s) where
 
   -- The heads of what stands in bytes fit their bytes.
   pub encodable-stand : (f : Forest) (i : ℕ) → Stands s i f → allEncodable f ≡ true
-  unfolding allEncodable encodable placeFits
+  unfolding allNodes encodable placeFits
   encodable-stand nil i d = refl
   encodable-stand (node h cs rest) i d =
       and-both (subst (λ (x : Head). encodable x ≡ true) (d .0)
@@ -243,7 +243,7 @@ count-records nil = omega arith
 count-records (node h cs rest) = omega (arith, count-records rest)
 
 small-forest : (f : Forest) → allEncodable f ≡ true → records f < 65536 → Small (bytes (preorder f))
-unfolding allEncodable bytes preorder
+unfolding allNodes bytes preorder
 small-forest nil e l = tt
 small-forest (node h cs rest) e l =
     let under = and-right (encodable h) (allEncodable cs && allEncodable rest) e in

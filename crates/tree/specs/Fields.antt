@@ -3,7 +3,7 @@ use mathlib.Core.List.{List}
 use Prim.Native.Nat.{ℕ, _+_}
 use lib.ListN.{getD}
 use Rattle.le.specs.Le.{u16At, u32At}
-use Rattle.tree.specs.Tree.{Place, Head}
+use Rattle.tree.specs.Tree.{Place, Head, Tree, alone}
 use Rattle.tree.specs.Offset as offset
 use Rattle.tree.specs.Layout.{start}
 
@@ -33,6 +33,9 @@ headAt s i = record {
   text = u32At s (start i + offset.text);
   place = placeFrom s (start i + offset.place);
 }
+
+abbrev pub nodeAt : List ℕ → ℕ → Tree
+nodeAt s i = alone (headAt s i)
 
 -- "4–5 children"
 abbrev pub childrenAt : List ℕ → ℕ → ℕ

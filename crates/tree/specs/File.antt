@@ -1,10 +1,10 @@
 -- The bytes of a tree file: what an exporter writes. Of the encoding a reader has to believe only this: `Fields` and `decode`, which
 -- read it, are shown to agree with it (`Accepted`).
-use mathlib.Core.Bool.{Bool, true, _&&_}
+use mathlib.Core.Bool.{Bool, _&&_}
 use mathlib.Core.List.{List, [], _∷_, _++_}
 use Prim.Native.Nat.{ℕ, suc, _/_, _%_, _^_}
 use lib.Dec.{ltb}
-use Rattle.tree.specs.Tree.{Place, Head, Forest, nil, node, Tree, one, count, records, size}
+use Rattle.tree.specs.Tree.{Place, Head, Forest, nil, node, Tree, one, count, records, size, allHeads}
 
 -- One record: a head, "4–5 children, 6–7 records in the subtree with itself".
 pub record Rec : Type 0 where
@@ -55,6 +55,5 @@ encodable h =
     (ltb (h .kind) 256 && (ltb (h .facts) 256 && (ltb (h .sub) 256 && ltb (h .reserved) 256)))
     && (ltb (h .text) (2 ^ 32) && placeFits (h .place))
 
-unfoldable pub allEncodable : Forest → Bool
-allEncodable nil = true
-allEncodable (node h cs rest) = encodable h && (allEncodable cs && allEncodable rest)
+abbrev pub allEncodable : Forest → Bool
+allEncodable f = allHeads encodable f

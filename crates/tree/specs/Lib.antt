@@ -3,6 +3,7 @@ pub mod Heads
 pub mod Kind
 pub mod Below
 pub mod Record
+pub mod Symbol
 pub mod Children
 pub mod File
 pub mod Offset

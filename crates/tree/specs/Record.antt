@@ -20,6 +20,10 @@ symbolPair facts = facts / 2 % 4
 abbrev pub stringPair : ℕ → ℕ
 stringPair facts = facts / 8 % 4
 
+-- A recorded "yes": the node is said to be a symbol.
+unfoldable pub symbolYes : Head → Bool
+symbolYes h = eqb (symbolPair (h .facts)) 2
+
 -- "0 for 8, 11, 19; 1 for 9; 255 for 16; 127 for 17; else 31"
 unfoldable pub allowedFacts : ℕ → ℕ
 allowedFacts k =
@@ -42,8 +46,24 @@ pairsOk facts =
 unfoldable pub literalOk : Head → Bool
 literalOk h = not (eqb (h .kind) kind.literal) || eqb (h .facts) 18
 
+-- "unary (sub 1 void, 2 not, 3 typeof, 4 other)"
+unfoldable pub isVoidNotOrTypeof : Head → Bool
+isVoidNotOrTypeof h = eqb (h .kind) kind.unary && leb (h .sub) 3
+
+-- "binary (sub 1 comparison, one of the Rust's eight; ..)"
+unfoldable pub isComparison : Head → Bool
+isComparison h = eqb (h .kind) kind.binary && eqb (h .sub) 1
+
+-- 02, N9, what can never be a symbol, by its record alone: "`!a`, `typeof a`, `void a`, a comparison, a template"
+unfoldable pub neverSymbolAlone : Head → Bool
+neverSymbolAlone h = isVoidNotOrTypeof h || (isComparison h || eqb (h .kind) kind.template)
+
+-- "a recorded "yes" on one is refused as bad facts"
+unfoldable pub symbolOk : Head → Bool
+symbolOk h = not (symbolYes h && neverSymbolAlone h)
+
 unfoldable pub factsOk : Head → Bool
-factsOk h = bitsWithin (allowedFacts (h .kind)) (h .facts) && (pairsOk (h .facts) && literalOk h)
+factsOk h = bitsWithin (allowedFacts (h .kind)) (h .facts) && (pairsOk (h .facts) && (literalOk h && symbolOk h))
 
 -- "Element sub: bits 0–2 method 1, property 2, accessor 3, static block 4, index signature 5"
 abbrev pub form : ℕ → ℕ

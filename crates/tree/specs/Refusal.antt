@@ -4,9 +4,10 @@ use mathlib.Core.List.{List}
 use Prim.Native.Nat.{ℕ, zero, suc, _+_}
 use lib.Dec.{eqb, leb, ltb}
 use lib.ListN.{length, getD}
-use Rattle.tree.specs.Tree.{Head, Forest, nil, node, Tree, depth}
+use Rattle.tree.specs.Tree.{Head, Forest, nil, node, Tree, one, depth}
 use Rattle.tree.specs.Below.{allBelow}
 use Rattle.tree.specs.Record.{recordOk, taken}
+use Rattle.tree.specs.Symbol.{additionsAgree}
 use Rattle.tree.specs.Children.{childCountOk, mayStand}
 use Rattle.tree.specs.Layout.{start}
 use Rattle.tree.specs.Fields.{versionOf, settingsOf, countOf, headAt, childrenAt, subtreeAt}
@@ -81,6 +82,10 @@ decode (suc fuel) s p e =
 unfoldable pub treeOf : List ℕ → Tree
 treeOf s = record { head = headAt s 0; kids = decode (countOf s) s 1 (countOf s) }
 
+-- 5 again: 02, N9: "a recorded "yes" on one is refused as bad facts, for the addition just after the tree's shape is tested"
+unfoldable pub additionsOk : List ℕ → Bool
+additionsOk s = additionsAgree (one (treeOf s))
+
 -- "8 depth over 64 (root 1)"; 64 is Reduce's limit
 unfoldable pub depthOk : ℕ → List ℕ → Bool
 depthOk maxDepth s = leb (depth (treeOf s)) maxDepth
@@ -98,4 +103,5 @@ refusal limits s =
     (unless (recordsOk s) 5
     (unless (allTaken (limits .logicals) s) 6
     (unless (shapeOk s) 7
-    (unless (depthOk (limits .depth) s) 8 0)))))))
+    (unless (additionsOk s) 5
+    (unless (depthOk (limits .depth) s) 8 0))))))))

@@ -6,11 +6,13 @@ use mathlib.Core.Logic.{⊎-elim}
 use Prim.Native.Nat.{ℕ, zero, suc, _+_, _<_, _≤_}
 use native.Mathlib.Nat.{eq-or-lt-of-le}
 use native.Mathlib.Omega.{arith}
-use lib.Dec.{leb}
+use lib.Dec.{eqb, leb}
 use borrow.Author.Tests.{eqb-true, le-leb, leb-true, lt-ltb, le-ltb, eq-eqb}
-use Rattle.tree.specs.Tree.{Head, Forest, nil, node, allHeads, count, records}
+use Rattle.tree.specs.Tree.{Head, Forest, nil, node, alone, count, records, allNodes, allHeads}
 use Rattle.tree.specs.Below.{and-both, and-left, and-right, lt-or-le}
 use Rattle.tree.specs.Record.{recordOk, included}
+use Rattle.tree.specs.Symbol.{isAddition}
+use Rattle.tree.specs.Kind as kind
 use Rattle.tree.specs.Children.{childCountOk, mayStand, childrenStand, nodeOk, formed}
 use Rattle.tree.specs.Fields.{headAt, childrenAt, subtreeAt}
 use Rattle.tree.specs.Refusal.{childrenEnd, shapeAt, decode}
@@ -48,6 +50,14 @@ node-parts h cs w =
 node-whole : {h : Head} {cs : Forest} → NodeOk h cs → nodeOk h cs ≡ true
 unfolding nodeOk
 node-whole o = and-both (o .record-ok) (and-both (o .is-included) (and-both (o .counted) (o .stand)))
+
+-- An addition has two sides.
+pub two-sides : (h : Head) (cs : Forest) → isAddition (alone h) ≡ true → nodeOk h cs ≡ true → count cs ≡ 2
+unfolding isAddition childCountOk
+two-sides h cs a w =
+    let k = eqb-true (h .kind) kind.binary (and-left (eqb (h .kind) kind.binary) (eqb (h .sub) 2) a) in
+    let c : eqb (count cs) 2 ≡ true = rw k at (node-parts h cs w .counted) in
+    eqb-true (count cs) 2 c
 
 -- What is decoded from record p to record e, the k children of the node h or the last k of them.
 pub record Decoded (s : List ℕ) (h : Head) (first : Bool) (k p e : ℕ) (f : Forest) : Type 0 where
@@ -176,14 +186,14 @@ module _ (s : List ℕ) where
 
   -- A test of each of its heads, and of each of its records.
   pub heads-stand : (test : Head → Bool) (p : ℕ) (f : Forest) → Stands s p f → ((i : ℕ) → i < p + records f → test (headAt s i) ≡ true) → allHeads test f ≡ true
-  unfolding allHeads
+  unfolding allNodes
   heads-stand test p nil d h = refl
   heads-stand test p (node k cs rest) d h =
       and-both (subst (λ (x : Head). test x ≡ true) (d .0) (h p (omega arith)))
       (and-both (heads-stand test (p + 1) cs (d .3) (λ i l. h i (omega arith))) (heads-stand test (p + suc (records cs)) rest (d .4) (λ i l. h i (omega arith))))
 
   pub heads-at : (test : Head → Bool) (p : ℕ) (f : Forest) → Stands s p f → allHeads test f ≡ true → (i : ℕ) → p ≤ i → i < p + records f → test (headAt s i) ≡ true
-  unfolding allHeads
+  unfolding allNodes
   heads-at test p nil d w i a b = absurd (omega arith)
   heads-at test p (node h cs rest) d w i a b =
       let under = and-right (test h) (allHeads test cs && allHeads test rest) w in

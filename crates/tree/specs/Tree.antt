@@ -27,6 +27,10 @@ pub record Tree : Type 0 where
   pub head : Head
   pub kids : Forest
 
+-- A node by its head alone: what is asked of a record is asked of this.
+abbrev pub alone : Head → Tree
+alone h = record { head = h; kids = nil }
+
 abbrev pub trees : Forest → List Tree
 trees nil = []
 trees (node h cs rest) = record { head = h; kids = cs } ∷ trees rest
@@ -63,9 +67,12 @@ levels nil = 0
 levels (node h cs rest) = max (suc (levels cs)) (levels rest)
 
 -- A test at each node of a list, and at each node under it.
-unfoldable pub allHeads : (Head → Bool) → Forest → Bool
-allHeads p nil = true
-allHeads p (node h cs rest) = p h && (allHeads p cs && allHeads p rest)
+unfoldable pub allNodes : (Tree → Bool) → Forest → Bool
+allNodes p nil = true
+allNodes p (node h cs rest) = p (record { head = h; kids = cs }) && (allNodes p cs && allNodes p rest)
+
+abbrev pub allHeads : (Head → Bool) → Forest → Bool
+allHeads p f = allNodes (λ t. p (t .head)) f
 
 -- "records in the subtree with itself"
 abbrev pub size : Tree → ℕ
@@ -83,6 +90,13 @@ pub record Paired (B : Type 0) : Type 0 where
 abbrev pub All : {A : Type 0} → (A → Type 0) → List A → Type 0
 All P [] = Unit {0}
 All P (x ∷ xs) = P x × All P xs
+
+-- f of the two members of a list of two; `other` of any other list, which no accepted addition has for its children.
+abbrev pub ofTwo : {A B : Type 0} → (A → A → B) → B → List A → B
+ofTwo f other [] = other
+ofTwo f other (x ∷ []) = other
+ofTwo f other (x ∷ y ∷ []) = f x y
+ofTwo f other (x ∷ y ∷ z ∷ zs) = other
 
 -- `recur rule t`: the rule at each node is handed the node's children, each paired with its own result.
 module _ {B : Type 0} (rule : Tree → List (Paired B) → B) where

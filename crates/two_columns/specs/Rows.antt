@@ -8,6 +8,7 @@ use Rattle.le.specs.Le.{u16At, u32At}
 use Rattle.tree.specs.Tree as tree
 use Rattle.tree.specs.Below as below
 use Rattle.tree.specs.Record as rec
+use Rattle.tree.specs.Symbol as symbol
 use Rattle.tree.specs.Children as children
 use Rattle.tree.specs.Layout as layout
 use Rattle.tree.specs.File as file
@@ -81,10 +82,11 @@ rows =
 
 pub rows-hold : map (λ r. columns (r .file)) rows ≡ map (λ r. r .text) rows
 unfolding columns table sideBySide lines line column recordsLine refusedLine decimal digits u16At u32At tree.recur tree.each below.allBelow
-    rec.allowedFacts rec.bitsWithin rec.pairsOk rec.literalOk rec.factsOk rec.elementSubOk rec.subOk rec.recordOk rec.included rec.logicalTaken
+    tree.allNodes rec.symbolYes rec.allowedFacts rec.bitsWithin rec.pairsOk rec.literalOk rec.isVoidNotOrTypeof rec.isComparison rec.neverSymbolAlone
+    rec.symbolOk rec.factsOk rec.elementSubOk rec.subOk rec.recordOk rec.included rec.logicalTaken symbol.additionAgrees
     children.childCountOk children.mayStand layout.width layout.span layout.start file.fileBytes file.preorder file.bytes
     refusal.markOk refusal.versionOk refusal.settingsOk refusal.countOk refusal.recordsOk refusal.allTaken refusal.childrenEnd
-    refusal.shapeAt refusal.shapeOk refusal.decode refusal.treeOf refusal.depthOk refusal.refusal
+    refusal.shapeAt refusal.shapeOk refusal.decode refusal.treeOf refusal.additionsOk refusal.depthOk refusal.refusal
     Settings.annotations Settings.treeShakeOnly Settings.countsAsYes Handler.handler Handler.isKind
     Facts.flagged Facts.possibleSymbol Facts.annotated Facts.listed Facts.summaryFree Facts.pureNew Facts.pureCall
     Facts.hasSideEffectsOrPreservedIife Facts.testIsYes Made.flagOf Made.makeLogical Made.withChildren Class.hasStaticValue Class.nonemptyStaticBlock Reduce.reduceRule Reduce.reduce

@@ -12,10 +12,13 @@ const SIZES: [usize; 4] = [10, 200, 2_000, 3_999];
 const MOST_REDUCED: usize = 2_000;
 /// Those of the files with conditionals, which the others do not have.
 const CHOOSING: usize = 200;
+/// The additions of a chain: one, and as many as go into the depth.
+const CHAINS: [usize; 2] = [1, 61];
 
-/// A line for each operation and size, `?:` of files with conditionals: nanoseconds a record of the port, of each other side, of the
-/// oracle if there is one, and of a copy of the file's bytes, which is the least that any could take;
-/// and behind each of these the ratio to the port. Medians, as `driver speed` takes them.
+/// A line for each operation and size, `?:` of files with conditionals, `t` and `r` of chains of so many
+/// additions in templates and on the right of strings: nanoseconds a record of the port, of each other
+/// side, of the oracle if there is one, and of a copy of the file's bytes, which is the least that any
+/// could take; and behind each of these the ratio to the port. Medians, as `driver speed` takes them.
 pub fn table(
     sides: &[&dyn Side],
     mut oracle: Option<&mut Oracle>,
@@ -40,6 +43,15 @@ pub fn table(
     let (times, stages) = speed::reduce(sides, oracle, &files)?;
     reduced += &line("Reduce, ?:", times, stages.map(|stages| stages.all));
     listed += &line("List, ?:", speed::list(sides, &files), None);
+    for (name, right) in [("t", false), ("r", true)] {
+        for additions in CHAINS {
+            let files = speed::chains_files(MOST_REDUCED, additions, right, seed);
+            let line = liner(&files, has_oracle);
+            let (times, _) = speed::reduce(sides, None, &files)?;
+            reduced += &line(&format!("Reduce, {name} {additions}"), times, None);
+            listed += &line(&format!("List, {name} {additions}"), speed::list(sides, &files), None);
+        }
+    }
     Ok(head(sides, has_oracle, seed) + &reduced + &listed + &checked)
 }
 

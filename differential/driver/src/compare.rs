@@ -2,15 +2,17 @@
 
 use std::iter;
 
-use port::Limits;
+use port::{Limits, Tree};
 
 use crate::damage::Damaged;
 use crate::file;
 use crate::hits::{self, Hits};
 use crate::listing_hits;
 use crate::logicals;
+use crate::never_symbol;
 use crate::oracle::Oracle;
 use crate::random::Random;
+use crate::recorded;
 use crate::side::{Answer, Listing, Reduction, Side};
 
 /// What was seen to differ, or a promise that was not kept.
@@ -69,6 +71,9 @@ pub struct Tally {
     pub entries: u64,
     /// Files with logicals, for List effects alone.
     pub listed: u64,
+    /// Trees whose recorded facts are not what the rules read (02, N9): the copy with "no" recorded on
+    /// the six is held to the oracle in their stead.
+    pub left_out: u64,
     /// Trees, with no place that counts as yes.
     pub premise_true: u64,
     pub premise_false: u64,
@@ -121,18 +126,80 @@ impl<'s> Comparator<'s> {
             self.tally.kept += 1;
             self.kept(file, &answer)?;
         }
-        let tree =
-            port::check(file, Limits::REDUCE).map_err(|n| format!("the port refuses: {n}"))?;
+        let (tree, copy) = (accepted_by_port(file, Limits::REDUCE)?, WithNo::of(file));
         let marks = port::outcomes(tree);
         self.tally.hits.add(&hits::of_tree(tree, &marks));
-        let holds = port::premise(tree, &marks, &[]);
-        self.demand_3(file, &answer, None, more_room, holds)?;
-        for yes in lists {
-            self.tally.hits.add(&listing_hits::of_list(tree, yes));
-            let holds = port::premise(tree, &marks, yes);
-            self.demand_3(file, &answer, Some(yes), more_room, holds)?;
+        let same = copy.premises()?;
+        for yes in iter::once(None).chain(lists.iter().map(|yes| Some(&yes[..]))) {
+            let given = yes.unwrap_or_default();
+            if yes.is_some() {
+                self.tally.hits.add(&listing_hits::of_list(tree, given));
+            }
+            let holds = port::premise(tree, &marks, given);
+            self.premise(file, given, holds, same(given))?;
+            let effects = self.demand_3(file, &answer, yes, more_room, holds)?;
+            self.listed_as_copy(&copy, yes, &effects)?;
         }
-        self.wait_for_oracle(file, answer)
+        self.reduced_as_copy(answer, &copy)
+    }
+
+    /// The premise is that of the copy, if that differs from the file, and that of each side that offers
+    /// it.
+    fn premise(
+        &mut self,
+        file: &[u8],
+        yes: &[u32],
+        holds: bool,
+        of_copy: Option<bool>,
+    ) -> Result<(), Difference> {
+        self.check(of_copy.is_none_or(|same| same == holds), || {
+            format!("under {yes:?} the premise is {holds}, with no recorded {of_copy:?}")
+        })?;
+        for &side in &self.sides[1..] {
+            let (name, theirs) = (side.name(), side.premise(file, yes));
+            self.check(theirs.is_none_or(|theirs| theirs == holds), || {
+                format!("{name}: under {yes:?} the premise is {theirs:?}, not {holds}")
+            })?;
+        }
+        Ok(())
+    }
+
+    /// The effects are those of the copy, and these are as they were when a possible symbol was what is
+    /// not recorded as none.
+    fn listed_as_copy(
+        &mut self,
+        copy: &WithNo,
+        yes: Option<&[u32]>,
+        effects: &[u64],
+    ) -> Result<(), Difference> {
+        if copy.differs {
+            let same = self.effects_of(&copy.file, yes, 0)?;
+            self.check(same == effects, || {
+                format!("under {yes:?} effects {effects:?}, with no recorded {same:?}")
+            })?;
+        }
+        let tree = accepted_by_port(&copy.file, Limits::LIST_EFFECTS)?;
+        let before = recorded::effects(tree, yes.unwrap_or_default());
+        self.check(before == effects, || {
+            format!("under {yes:?} effects {effects:?}, as recorded {before:?}")
+        })
+    }
+
+    /// The answer is the copy's, but for the recorded bits themselves. The oracle, which goes by what is
+    /// recorded, is asked about the copy.
+    fn reduced_as_copy(&mut self, answer: Vec<u8>, copy: &WithNo) -> Result<(), Difference> {
+        if !copy.differs {
+            return self.wait_for_oracle(&copy.file, answer);
+        }
+        self.tally.left_out += 1;
+        let (reduction, of_copy) = self.reduce(&copy.file, file::output_room(&copy.file))?;
+        self.not_refused("Reduce", reduction.number)?;
+        if !of_copy.is_empty() {
+            self.kept(&copy.file, &of_copy)?;
+        }
+        let same = never_symbol::answer_with_no(&answer) == never_symbol::answer_with_no(&of_copy);
+        self.check(same, || reduced_otherwise("with no recorded it", &of_copy, &answer))?;
+        self.wait_for_oracle(&copy.file, of_copy)
     }
 
     fn not_refused(&mut self, what: &str, number: u8) -> Result<(), Difference> {
@@ -147,8 +214,8 @@ impl<'s> Comparator<'s> {
         let (reduction, _) = self.reduce(file, file::output_room(file))?;
         self.check(reduction.number == 6, || format!("refused by {}, not 6", reduction.number))?;
         let conditionals = logicals::as_conditionals(file);
-        let tree = port::check(file, Limits::LIST_EFFECTS)
-            .map_err(|n| format!("the port refuses: {n}"))?;
+        let tree = accepted_by_port(file, Limits::LIST_EFFECTS)?;
+        let copy = WithNo::of(file);
         for yes in iter::once(None).chain(lists.iter().map(|yes| Some(&yes[..]))) {
             self.tally.hits.add(&listing_hits::of_list(tree, yes.unwrap_or_default()));
             let effects = self.effects_of(file, yes, 0)?;
@@ -157,6 +224,7 @@ impl<'s> Comparator<'s> {
             self.check(renamed.eq(same.iter().copied()), || {
                 format!("under {yes:?} effects {effects:?}, as conditionals {same:?}")
             })?;
+            self.listed_as_copy(&copy, yes, &effects)?;
         }
         Ok(())
     }
@@ -214,7 +282,7 @@ impl<'s> Comparator<'s> {
 
     /// "Demand 3 compares the accepted tree's list with the kept answer's, in length and at every
     /// entry", where each clear flag that was read is true: the premise holds. "For every such list
-    /// the effects must be equal" (02, N1).
+    /// the effects must be equal" (02, N1). Answers with the tree's.
     fn demand_3(
         &mut self,
         file: &[u8],
@@ -222,7 +290,7 @@ impl<'s> Comparator<'s> {
         yes: Option<&[u32]>,
         more_room: usize,
         holds: bool,
-    ) -> Result<(), Difference> {
+    ) -> Result<Vec<u64>, Difference> {
         let before = self.effects_of(file, yes, more_room)?;
         let after = if answer.is_empty() { Vec::new() } else { self.effects_of(answer, yes, 0)? };
         let tally = &mut self.tally;
@@ -234,7 +302,8 @@ impl<'s> Comparator<'s> {
         } += 1;
         self.check(!holds || before == after, || {
             format!("under {yes:?} effects {before:?} become {after:?}")
-        })
+        })?;
+        Ok(before)
     }
 
     /// The file must be refused by the numbers that its damage calls for, whatever list is lent.
@@ -244,16 +313,17 @@ impl<'s> Comparator<'s> {
         let (listing, _) = self.list(&case.file, None, case.entry_room)?;
         let (given, _) = self.list(&case.file, Some(yes), case.entry_room)?;
         let seen = (reduction.number, listing.number, given.number);
-        let due = (case.reduce, case.list, case.list);
+        let due = (case.reduce(), case.list(), case.list());
         self.check(seen == due, || format!("refused by {seen:?}, where {due:?} is due"))?;
         let of_file = |number: u8| if number > 8 { 0 } else { number };
-        self.checked(&case.file, of_file(case.reduce), of_file(case.list))?;
-        self.tally.refused_reductions += u64::from(case.reduce != 0);
-        self.tally.refused_lists += u64::from(case.list != 0);
-        self.tally.refused[case.reduce as usize] += 1;
-        if case.list != case.reduce {
-            self.tally.refused[case.list as usize] += 1;
+        self.checked(&case.file, of_file(due.0), of_file(due.1))?;
+        self.tally.refused_reductions += u64::from(due.0 != 0);
+        self.tally.refused_lists += u64::from(due.1 != 0);
+        self.tally.refused[due.0 as usize] += 1;
+        if due.1 != due.0 {
+            self.tally.refused[due.1 as usize] += 1;
         }
+        case.hit().into_iter().for_each(|hit| self.tally.hits.hit(hit));
         Ok(())
     }
 
@@ -408,6 +478,31 @@ impl<'s> Comparator<'s> {
         }
         Ok(self.tally)
     }
+}
+
+/// A file with "no" recorded on each of the six that can never be a symbol.
+struct WithNo {
+    file: Vec<u8>,
+    /// From the file that it was made of.
+    differs: bool,
+}
+
+impl WithNo {
+    fn of(file: &[u8]) -> WithNo {
+        let copy = never_symbol::with_no(file);
+        WithNo { differs: copy != file, file: copy }
+    }
+
+    /// The copy's premise under a list, if it differs.
+    fn premises(&self) -> Result<impl Fn(&[u32]) -> Option<bool>, Difference> {
+        let tree = accepted_by_port(&self.file, Limits::REDUCE)?;
+        let marks = self.differs.then(|| port::outcomes(tree));
+        Ok(move |yes: &[u32]| marks.as_ref().map(|marks| port::premise(tree, marks, yes)))
+    }
+}
+
+fn accepted_by_port(file: &[u8], limits: Limits) -> Result<Tree<'_>, Difference> {
+    port::check(file, limits).map_err(|n| format!("the port refuses: {n}"))
 }
 
 fn reduced_otherwise(name: &str, out: &[u8], other: &[u8]) -> String {

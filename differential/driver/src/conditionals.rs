@@ -14,7 +14,7 @@ use crate::yes;
 const PLACES: usize = 5;
 
 /// A record's kind, facts and sub.
-type Head = [u8; 3];
+pub type Head = [u8; 3];
 
 /// How much is gone through.
 #[derive(Clone, Copy)]
@@ -60,7 +60,7 @@ pub fn go(comparator: &mut Comparator, extent: Extent, seed: u64) -> Result<Tall
 }
 
 /// A tree's shape: for each record how many children it has, and how many records are in its subtree.
-type Shape = Vec<(usize, usize)>;
+pub type Shape = Vec<(usize, usize)>;
 
 /// All shapes of up to four records.
 fn shapes() -> Vec<Shape> {
@@ -68,7 +68,7 @@ fn shapes() -> Vec<Shape> {
 }
 
 /// So many trees beside each other, of so many records altogether: each has its first tree's root first.
-fn forests(trees: usize, records: usize) -> Vec<Shape> {
+pub fn forests(trees: usize, records: usize) -> Vec<Shape> {
     if trees == 0 {
         return if records == 0 { vec![vec![]] } else { vec![] };
     }
@@ -138,7 +138,7 @@ fn chosen_heads(children: usize) -> Vec<Head> {
 }
 
 /// Every choice of a head for each record.
-fn each(
+pub fn each(
     heads: &[Vec<Head>],
     visit: &mut impl FnMut(&[Head]) -> Result<(), Difference>,
 ) -> Result<(), Difference> {
@@ -175,7 +175,7 @@ fn tree(
     under_every_list(comparator, tally, &with_source_places(file))
 }
 
-fn assembled(settings: u8, shape: &Shape, heads: &[Head]) -> Vec<u8> {
+pub fn assembled(settings: u8, shape: &Shape, heads: &[Head]) -> Vec<u8> {
     let mut file = b"UXT\x01\x00".to_vec();
     file.push(settings);
     file.extend((shape.len() as u16).to_le_bytes());

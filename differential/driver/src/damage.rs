@@ -3,40 +3,117 @@
 use port::{Limits, element, kind, sub};
 
 use crate::file;
+use crate::hits::Hit;
 use crate::logicals;
+use crate::never_symbol::{self, Never};
 use crate::random::Random;
 use crate::trees;
 
-/// A file, what is lent, and the numbers that Reduce and List effects must answer (0: accepted).
+/// A file, what is lent, and the tests that Reduce and List effects must refuse it by.
 pub struct Damaged {
     pub file: Vec<u8>,
     pub output_room: usize,
     pub entry_room: usize,
-    pub reduce: u8,
-    pub list: u8,
+    reduce: Test,
+    list: Test,
     /// How many faults are in the file itself: what is lent is none of it.
     pub faults: u8,
-    /// The record that was damaged last, so for the lower number; the next damage falls on another.
+    /// The record that was damaged last, so for the earlier test; the next damage falls on another.
     pub touched: Option<usize>,
+    /// Which of the six says that it is a symbol.
+    never: Option<Never>,
 }
 
-/// One damage or two; of two, the lower number must win, wherever in the file they stand.
-pub fn damaged(random: &mut Random, good: &[u8]) -> Damaged {
-    let mut numbers = vec![random.between(1, 10) as u8];
-    if random.chance(96) {
-        numbers.push(random.between(1, 10) as u8);
+/// A test of the file or of what is lent, in the order in which they are made. 5 is made twice, "for
+/// the addition just after the tree's shape is tested" (02, N9).
+#[derive(Clone, Copy, Debug, PartialEq, Eq, PartialOrd, Ord)]
+pub enum Test {
+    Of(u8),
+    /// 5 for additions.
+    Addition,
+    After(u8),
+    Passed,
+}
+
+impl Test {
+    const ALL: [Test; 11] = [
+        Test::Of(1),
+        Test::Of(2),
+        Test::Of(3),
+        Test::Of(4),
+        Test::Of(5),
+        Test::Of(6),
+        Test::Of(7),
+        Test::Addition,
+        Test::After(8),
+        Test::After(9),
+        Test::After(10),
+    ];
+
+    /// The test of this number, of records for 5; 0: all passed.
+    fn numbered(number: u8) -> Test {
+        match number {
+            0 => Test::Passed,
+            1..8 => Test::Of(number),
+            _ => Test::After(number),
+        }
     }
-    // The higher number first: a damaged header hides no damage to a record from us.
-    numbers.sort_unstable_by(|a, b| b.cmp(a));
-    numbers.dedup();
-    let mut case = if numbers.contains(&8) { too_deep(random) } else { Damaged::of(good.to_vec()) };
-    if numbers == [4] && random.chance(8) {
+
+    /// The number that it refuses with.
+    fn number(self) -> u8 {
+        match self {
+            Test::Of(number) | Test::After(number) => number,
+            Test::Addition => 5,
+            Test::Passed => 0,
+        }
+    }
+}
+
+/// One damage or two; of two, the earlier test must win, wherever in the file they stand.
+pub fn damaged(random: &mut Random, good: &[u8]) -> Damaged {
+    let mut tests = vec![random.pick(&Test::ALL)];
+    if random.chance(96) {
+        tests.push(random.pick(&Test::ALL));
+    }
+    if tests == [Test::Addition] && random.chance(96) {
+        tests.push(random.pick(&[Test::Of(6), Test::Of(7), Test::After(8)]));
+    }
+    // The later test first: a damaged header hides no damage to a record from us.
+    tests.sort_unstable_by(|a, b| b.cmp(a));
+    tests.dedup();
+    let additions = tests.contains(&Test::Addition);
+    let mut case = match tests.contains(&Test::After(8)) {
+        true if additions || random.chance(32) => long_chain(random),
+        true => too_deep(random),
+        false if additions && random.chance(128) => chain(random),
+        false => Damaged::of(good.to_vec()),
+    };
+    if tests == [Test::Of(4)] && random.chance(8) {
         return too_many(random);
     }
-    for number in numbers {
-        case.damage(random, number);
+    for test in tests {
+        case.damage(random, test);
     }
+    case.test_additions();
     case
+}
+
+/// A left chain of additions with a string in it.
+fn chain(random: &mut Random) -> Damaged {
+    let additions = random.between(1, Limits::REDUCE.depth - 1);
+    let string = random.between(1, additions);
+    Damaged::of(trees::chain_file(random, additions, &[string]))
+}
+
+/// The same, too deep: now and then as long as any file can be.
+fn long_chain(random: &mut Random) -> Damaged {
+    let (reduce, list) = (Limits::REDUCE, Limits::LIST_EFFECTS);
+    let most = if random.chance(8) { list.records / 2 } else { list.depth + 3 };
+    let additions = random.between(reduce.depth, most);
+    let string = random.between(1, additions);
+    let file = trees::chain_file(random, additions, &[string]);
+    let number = if file::count(&file) > reduce.records { 4 } else { 8 };
+    Damaged::whole(file, number, if additions >= list.depth { 8 } else { 0 })
 }
 
 /// "Depth 64 taken, 65 refused 8"; the listing takes one level more.
@@ -57,12 +134,14 @@ fn too_many(random: &mut Random) -> Damaged {
 impl Damaged {
     fn of(file: Vec<u8>) -> Damaged {
         let (output_room, entry_room) = (file::output_room(&file), 2 * file::count(&file));
-        let reduce = if logicals::has_logicals(&file) { 6 } else { 0 };
-        Damaged { file, output_room, entry_room, reduce, list: 0, faults: 0, touched: None }
+        let reduce = if logicals::has_logicals(&file) { Test::Of(6) } else { Test::Passed };
+        let (list, faults, touched, never) = (Test::Passed, 0, None, None);
+        Damaged { file, output_room, entry_room, reduce, list, faults, touched, never }
     }
 
     /// A file that is refused for what it is.
     pub fn whole(file: Vec<u8>, reduce: u8, list: u8) -> Damaged {
+        let [reduce, list] = [reduce, list].map(Test::numbered);
         Damaged { reduce, list, faults: 1, ..Damaged::of(file) }
     }
 
@@ -74,23 +153,33 @@ impl Damaged {
         reduce: u8,
         list: u8,
     ) -> Damaged {
+        let [reduce, list] = [reduce, list].map(Test::numbered);
         Damaged { output_room, entry_room, reduce, list, ..Damaged::of(file) }
     }
 
-    /// The lowest number stands.
-    fn refuse(&mut self, reduce: u8, list: u8) {
-        let lower =
-            |old: u8, new: u8| if old == 0 || new == 0 { old.max(new) } else { old.min(new) };
-        self.reduce = lower(self.reduce, reduce);
-        self.list = lower(self.list, list);
+    /// The number that Reduce must answer; 0: accepted.
+    pub fn reduce(&self) -> u8 {
+        self.reduce.number()
     }
 
-    fn damage(&mut self, random: &mut Random, number: u8) {
-        let done = match number {
+    /// The number that List effects must answer.
+    pub fn list(&self) -> u8 {
+        self.list.number()
+    }
+
+    /// The earliest test stands.
+    fn refuse(&mut self, reduce: Test, list: Test) {
+        self.reduce = self.reduce.min(reduce);
+        self.list = self.list.min(list);
+    }
+
+    fn damage(&mut self, random: &mut Random, test: Test) {
+        let done = match test.number() {
             1 => self.cut_or_mark(random),
             2 => self.version(random),
             3 => self.settings(random),
             4 => self.count_or_length(random),
+            5 if test == Test::Addition => self.bad_addition(random),
             5 => self.bad_record(random),
             6 => return self.left_out_kind(random),
             7 => self.shape(random),
@@ -98,16 +187,16 @@ impl Damaged {
             8 => false,
             9 => {
                 self.output_room -= 1 + random.below(self.output_room);
-                return self.refuse(9, 0);
+                return self.refuse(test, Test::Passed);
             }
             _ => {
                 self.entry_room -= 1 + random.below(self.entry_room);
-                return self.refuse(0, 10);
+                return self.refuse(Test::Passed, test);
             }
         };
         if done {
             self.faults += 1;
-            self.refuse(number, number);
+            self.refuse(test, test);
         }
     }
 
@@ -158,8 +247,66 @@ impl Damaged {
         true
     }
 
+    /// "A recorded 'yes' on one is refused as bad facts" (02, N9), of the five that kind and sub tell.
+    fn bad_symbol(&mut self, random: &mut Random) -> bool {
+        let never = |i: usize| {
+            let record = file::record(&self.file, i);
+            never_symbol::by_head(record[0], record[2])
+        };
+        let wanted = random.pick(&[Never::Void, Never::Not, Never::Typeof, Never::Comparison]);
+        let found = self.find(random, |i| never(i) == Some(wanted));
+        let Some(i) = found.or_else(|| self.find(random, |i| never(i).is_some())) else {
+            return false;
+        };
+        self.never = never(i);
+        self.edit(i, never_symbol::record_yes)
+    }
+
+    /// The same of an addition with a string part.
+    fn bad_addition(&mut self, random: &mut Random) -> bool {
+        let six = never_symbol::six(&self.file);
+        let Some(i) = self.find(random, |i| six[i] == Some(Never::Addition)) else { return false };
+        self.never = six[i];
+        self.edit(i, never_symbol::record_yes)
+    }
+
+    /// A damage for an earlier test may have made the string part one, or none any more: a logical counts
+    /// by its string fact, where the addition that it was did not.
+    fn test_additions(&mut self) {
+        if self.reduce.max(self.list) < Test::Addition {
+            return;
+        }
+        let bad = never_symbol::bad_additions(&self.file) > 0;
+        for test in [&mut self.reduce, &mut self.list] {
+            if bad {
+                *test = Test::Addition.min(*test);
+            } else if *test == Test::Addition {
+                *test = Test::Passed;
+            }
+        }
+    }
+
+    /// What there is to count of a "yes" on one of the six.
+    pub fn hit(&self) -> Option<Hit> {
+        let never = self.never?;
+        match (never, self.reduce) {
+            (Never::Addition, Test::Of(6)) => Some(Hit::YesAdditionAfter6),
+            (Never::Addition, Test::Of(7)) => Some(Hit::YesAdditionAfter7),
+            (Never::Addition, Test::Addition) => {
+                let deep = file::depth(&self.file) > Limits::REDUCE.depth;
+                Some(if deep { Hit::YesAdditionBefore8 } else { Hit::YesAddition })
+            }
+            (Never::Addition, _) => None,
+            (_, Test::Of(5)) => Some(REFUSED[never as usize]),
+            _ => None,
+        }
+    }
+
     /// "5 kind, facts, sub or byte 3."
     fn bad_record(&mut self, random: &mut Random) -> bool {
+        if random.chance(192) && self.bad_symbol(random) {
+            return true;
+        }
         let Some(i) = self.find(random, |_| true) else { return false };
         let way = random.below(5);
         let number = random.between(1, 255) as u8;
@@ -189,14 +336,14 @@ impl Damaged {
         });
         let Some(i) = found else { return };
         let (kind, sub, list) = match way {
-            0 => (kind::ASSIGNMENT, 0, 6),
-            1 => (kind::LOGICAL, 0, 6),
-            2 => (kind::LOGICAL, operator, 0),
-            _ => (kind::LOGICAL, operator, 7),
+            0 => (kind::ASSIGNMENT, 0, Test::Of(6)),
+            1 => (kind::LOGICAL, 0, Test::Of(6)),
+            2 => (kind::LOGICAL, operator, Test::Passed),
+            _ => (kind::LOGICAL, operator, Test::Of(7)),
         };
         self.edit(i, |r| [r[0], r[1], r[2]] = [kind, r[1] & 31, sub]);
         self.faults += 1;
-        self.refuse(6, list);
+        self.refuse(Test::Of(6), list);
     }
 
     /// "7 child counts, subtree sizes (the root's is N), or a kind where it may not stand."
@@ -248,6 +395,9 @@ impl Damaged {
         self.edit(i, |r| r[..3].copy_from_slice(&[kind, 0, sub]))
     }
 }
+
+const REFUSED: [Hit; 5] =
+    [Hit::YesVoid, Hit::YesNot, Hit::YesTypeof, Hit::YesComparison, Hit::YesTemplate];
 
 /// "3 is bad in either pair"; "string yes needs symbol no"; bits that the kind does not allow.
 fn bad_facts(random: &mut Random, kind: u8, facts: u8) -> u8 {

@@ -21,6 +21,11 @@ fn size(file: &[u8], i: usize) -> usize {
     u16::from_le_bytes([record(file, i)[6], record(file, i)[7]]).into()
 }
 
+/// The record after `i` and all that is under it.
+pub fn after(file: &[u8], i: usize) -> usize {
+    i + size(file, i)
+}
+
 /// The file has as many bytes as its header's record count calls for.
 pub fn is_whole(file: &[u8]) -> bool {
     file.len() >= HEADER && file.len() == HEADER + RECORD * count(file)

@@ -6,6 +6,8 @@
 
 use crate::conditional_rows;
 use crate::hits::{self, HITS, Hit, Hits};
+use crate::never_symbol;
+use crate::never_symbol_rows;
 use crate::oracle::Oracle;
 use crate::random::Random;
 use crate::rows;
@@ -29,16 +31,39 @@ pub struct Case {
 }
 
 /// Rows A to L, the corners, then seeded trees until every handler's every outcome is met often
-/// enough; behind these, so that they stay as they are, the rows of conditionals and seeded trees
-/// with conditionals.
+/// enough; then the rows of conditionals and seeded trees with conditionals, and the rows of what can
+/// never be a symbol. "Runs are held against the Rust on trees whose facts already agree" (02, N9): all
+/// but the last record "no" on each of the six.
 pub fn make(oracle: &mut Oracle, seed: u64) -> io::Result<Vec<Case>> {
     let mut files: Vec<Vec<u8>> = rows::rows().iter().map(|(_, tree, _)| tree.file()).collect();
     files.extend(rows::corners().iter().map(|(_, tree, _)| tree.file()));
     files.extend(sample(seed, trees::WITHOUT_CONDITIONALS, &HITS[hits::OF_01]));
     files.extend(conditional_rows::rows().iter().map(|(_, tree, _)| tree.file()));
     files.extend(sample(seed, trees::COMPOUNDS, &HITS[hits::OF_CONDITIONALS]));
+    files.iter_mut().for_each(|file| never_symbol::record_no(file));
     let answers = oracle.reduce(&files)?;
-    Ok(files.into_iter().zip(answers).map(|(file, answer)| Case { file, answer }).collect())
+    let cases = files.into_iter().zip(answers).map(|(file, answer)| Case { file, answer });
+    Ok(cases.chain(of_unknown_symbol(oracle)?).collect())
+}
+
+/// The rows, whose answers are written by hand: the oracle's to the copies with "no" recorded on each of the
+/// six, but for the recorded bits themselves.
+fn of_unknown_symbol(oracle: &mut Oracle) -> io::Result<Vec<Case>> {
+    let rows = never_symbol_rows::rows().into_iter();
+    let cases: Vec<Case> = rows
+        .map(|(_, tree, answer)| Case {
+            file: tree.file(),
+            answer: answer.map_or_else(Vec::new, |answer| answer.file()),
+        })
+        .collect();
+    let copies: Vec<Vec<u8>> = cases.iter().map(|case| never_symbol::with_no(&case.file)).collect();
+    let theirs = oracle.reduce(&copies)?;
+    let with_no = never_symbol::answer_with_no;
+    let same = |(case, theirs): (&Case, &Vec<u8>)| with_no(&case.answer) == with_no(theirs);
+    match cases.iter().zip(&theirs).position(|both| !same(both)) {
+        Some(row) => Err(io::Error::other(format!("the oracle answers otherwise to row {row}"))),
+        None => Ok(cases),
+    }
 }
 
 /// Trees of these compounds until each of these outcomes is met.
@@ -49,6 +74,7 @@ fn sample(seed: u64, compounds: &'static [u8], outcomes: &[(Hit, &str)]) -> Vec<
     while outcomes.iter().any(|&(hit, _)| met.count(hit) < CASES_EACH) {
         let room = random.between(1, ROOM);
         let mut file = trees::small_file(&mut random, compounds, room);
+        never_symbol::record_no(&mut file);
         if random.chance(128) {
             trees::make_premise_true(&mut file, &[vec![]]);
         }

@@ -4,6 +4,8 @@ use std::ops::Range;
 
 use port::{Marks, Outcome, Tree, element, kind, sub};
 
+use crate::never_symbol::{self, Never};
+
 /// The fewest hits of each outcome in a run that passes.
 pub const LEAST: u64 = 1_000;
 
@@ -150,6 +152,47 @@ hits! {
     ListedAndLeft "listing: the left side of an and runs alone"
     ListedOrRight "listing: the right side of an or runs"
     ListedOrLeft "listing: the left side of an or runs alone"
+    ChildVoid "reducing: void of unknown symbol is no symbol in a template"
+    ChildNot "reducing: not of unknown symbol is no symbol in a template"
+    ChildTypeof "reducing: typeof of unknown symbol is no symbol in a template"
+    ChildComparison "reducing: a comparison of unknown symbol is no symbol in a template"
+    ChildTemplate "reducing: a template of unknown symbol is no symbol in a template"
+    ChildAddition "reducing: an addition with a string part of unknown symbol is no symbol in a template"
+    RightVoid "reducing: void of unknown symbol goes, right of a string"
+    RightNot "reducing: not of unknown symbol goes, right of a string"
+    RightTypeof "reducing: typeof of unknown symbol goes, right of a string"
+    RightComparison "reducing: a comparison of unknown symbol goes, right of a string"
+    RightTemplate "reducing: a template of unknown symbol goes, right of a string"
+    RightAddition "reducing: an addition with a string part of unknown symbol goes, right of a string"
+    ListedChildVoid "listing: void of unknown symbol is not coerced in a template"
+    ListedChildNot "listing: not of unknown symbol is not coerced in a template"
+    ListedChildTypeof "listing: typeof of unknown symbol is not coerced in a template"
+    ListedChildComparison "listing: a comparison of unknown symbol is not coerced in a template"
+    ListedChildTemplate "listing: a template of unknown symbol is not coerced in a template"
+    ListedChildAddition "listing: an addition with a string part of unknown symbol is not coerced in a template"
+    ListedSideVoid "listing: void of unknown symbol is not coerced, right of a string"
+    ListedSideNot "listing: not of unknown symbol is not coerced, right of a string"
+    ListedSideTypeof "listing: typeof of unknown symbol is not coerced, right of a string"
+    ListedSideComparison "listing: a comparison of unknown symbol is not coerced, right of a string"
+    ListedSideTemplate "listing: a template of unknown symbol is not coerced, right of a string"
+    ListedSideAddition "listing: an addition with a string part of unknown symbol is not coerced, right of a string"
+    ListedLeftVoid "listing: void of unknown symbol is not coerced, left of a string"
+    ListedLeftNot "listing: not of unknown symbol is not coerced, left of a string"
+    ListedLeftTypeof "listing: typeof of unknown symbol is not coerced, left of a string"
+    ListedLeftComparison "listing: a comparison of unknown symbol is not coerced, left of a string"
+    ListedLeftTemplate "listing: a template of unknown symbol is not coerced, left of a string"
+    ChildPlainAddition "reducing: an addition without a string part waits in a template"
+    ChildRightPart "reducing: an addition with a string part on its right waits in a template"
+    PlainAdditionYes "an addition without a string part is recorded as a symbol"
+    YesVoid "refused by 5: void recorded as a symbol"
+    YesNot "refused by 5: not recorded as a symbol"
+    YesTypeof "refused by 5: typeof recorded as a symbol"
+    YesComparison "refused by 5: a comparison recorded as a symbol"
+    YesTemplate "refused by 5: a template recorded as a symbol"
+    YesAddition "refused by 5: an addition with a string part recorded as a symbol"
+    YesAdditionBefore8 "refused by 5: the same in a file that is too deep"
+    YesAdditionAfter7 "refused by 7: the same in a file of a wrong shape"
+    YesAdditionAfter6 "refused by 6: the same in a file with a left-out kind"
 }
 
 /// The outcomes of document 01's handlers.
@@ -157,6 +200,57 @@ pub const OF_01: Range<usize> = 0..Hit::ConditionalUnflagged as usize;
 /// Those of the conditional handler, and where a conditional stands.
 pub const OF_CONDITIONALS: Range<usize> =
     Hit::ConditionalUnflagged as usize..Hit::ListedConsequent as usize;
+
+/// Where one of the six of unknown symbol is read as none, by which of the six.
+pub const IN_TEMPLATE: [Hit; 6] = [
+    Hit::ChildVoid,
+    Hit::ChildNot,
+    Hit::ChildTypeof,
+    Hit::ChildComparison,
+    Hit::ChildTemplate,
+    Hit::ChildAddition,
+];
+pub const DROPPED: [Hit; 6] = [
+    Hit::RightVoid,
+    Hit::RightNot,
+    Hit::RightTypeof,
+    Hit::RightComparison,
+    Hit::RightTemplate,
+    Hit::RightAddition,
+];
+pub const LISTED_CHILD: [Hit; 6] = [
+    Hit::ListedChildVoid,
+    Hit::ListedChildNot,
+    Hit::ListedChildTypeof,
+    Hit::ListedChildComparison,
+    Hit::ListedChildTemplate,
+    Hit::ListedChildAddition,
+];
+pub const LISTED_RIGHT: [Hit; 6] = [
+    Hit::ListedSideVoid,
+    Hit::ListedSideNot,
+    Hit::ListedSideTypeof,
+    Hit::ListedSideComparison,
+    Hit::ListedSideTemplate,
+    Hit::ListedSideAddition,
+];
+pub const LISTED_LEFT: [Hit; 5] = [
+    Hit::ListedLeftVoid,
+    Hit::ListedLeftNot,
+    Hit::ListedLeftTypeof,
+    Hit::ListedLeftComparison,
+    Hit::ListedLeftTemplate,
+];
+
+/// Which of the six a node of unknown symbol is.
+fn unknown(tree: Tree, i: usize) -> Option<Never> {
+    let never = if tree.is_addition(i) {
+        tree.has_string_part(i).then_some(Never::Addition)
+    } else {
+        never_symbol::by_head(tree.kind(i), tree.sub(i))
+    };
+    never.filter(|_| tree.symbol(i) == 0)
+}
 
 /// How often each outcome was met.
 pub struct Hits(Vec<u64>);
@@ -191,6 +285,11 @@ impl Hits {
         }
     }
 
+    /// Counts a node that is read as no symbol, if one of the six of unknown symbol.
+    pub fn hit_never(&mut self, tree: Tree, i: usize, hits: &[Hit]) {
+        unknown(tree, i).into_iter().for_each(|never| self.hit(hits[never as usize]));
+    }
+
     fn either(&mut self, condition: bool, yes: Hit, no: Hit) {
         self.hit(if condition { yes } else { no });
     }
@@ -210,7 +309,10 @@ pub fn reached(tree: Tree, marks: &Marks) -> usize {
 fn counted<'a>(tree: Tree<'a>, marks: &'a Marks) -> Counter<'a> {
     let mut counter = Counter { tree, marks, hits: Hits::default(), reached: 0 };
     counter.expression(0);
-    (0..tree.records.len()).for_each(|i| counter.conditionals_under(i));
+    (0..tree.records.len()).for_each(|i| {
+        counter.conditionals_under(i);
+        counter.hits.hit_if(tree.is_addition(i) && tree.symbol(i) == 2, Hit::PlainAdditionYes);
+    });
     counter
 }
 
@@ -321,9 +423,11 @@ impl Counter<'_> {
         let mut any_reduced = false;
         for child in tree.children(i) {
             if tree.possible_symbol(child) {
+                self.waiting_addition(child);
                 waiting = true;
                 continue;
             }
+            self.hits.hit_never(tree, child, &IN_TEMPLATE);
             self.expression(child);
             let kept = self.marks.is_kept(child);
             any_reduced |= kept;
@@ -338,6 +442,16 @@ impl Counter<'_> {
             Outcome::One => Hit::TemplateOneMade,
             _ => Hit::TemplateSeveral,
         });
+    }
+
+    /// Of a template's child that waits: it is counted if it is an addition.
+    fn waiting_addition(&mut self, i: usize) {
+        let tree = self.tree;
+        if tree.is_addition(i) {
+            let right = tree.after(i + 1);
+            let by_parts = tree.is_addition(right) && tree.has_string_part(right);
+            self.hits.either(by_parts, Hit::ChildRightPart, Hit::ChildPlainAddition);
+        }
     }
 
     fn object(&mut self, i: usize) {
@@ -397,6 +511,9 @@ impl Counter<'_> {
     }
 
     fn addition(&mut self, i: usize) {
+        if self.tree.flagged(i) {
+            self.dropped(i);
+        }
         self.hits.hit(match self.marks.outcome(i) {
             Outcome::Removed if !self.tree.flagged(i) => Hit::AdditionUnflagged,
             Outcome::Removed => Hit::AdditionFolded,
@@ -404,6 +521,16 @@ impl Counter<'_> {
             Outcome::Stays => self.addition_that_stays(i),
             _ => Hit::AdditionUnchanged,
         });
+    }
+
+    /// The right sides that the fold of a chain drops.
+    fn dropped(&mut self, i: usize) {
+        let tree = self.tree;
+        for addition in (i..).take_while(|&node| tree.is_addition(node)) {
+            if self.marks.gives_way(addition) {
+                self.hits.hit_never(tree, tree.after(addition + 1), &DROPPED);
+            }
+        }
     }
 
     fn addition_that_stays(&self, i: usize) -> Hit {

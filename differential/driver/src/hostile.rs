@@ -118,7 +118,10 @@ fn plausible(random: &mut Random, records: usize) -> [[u8; 8]; 2] {
     let kind = random.between(1, 22) as u8;
     let (facts, sub) = match kind {
         1 => (18, 0),
-        14 | 15 | 18..=20 => (0, random.between(1, 3) as u8),
+        2 => (random.pick(&[0, 18]), 0),
+        // Symbol yes is for additions without a string part.
+        15 => (random.pick(&[0, 0, 4]), random.between(1, 3) as u8),
+        14 | 18..=20 => (0, random.between(1, 3) as u8),
         _ => (0, 0),
     };
     let children = random.below(4) as u8;

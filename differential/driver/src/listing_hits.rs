@@ -1,8 +1,9 @@
-//! How often the listing ran each side of a test, by the places that count as yes.
+//! How often the listing ran each side of a test, by the places that count as yes, and where it read one of
+//! the six of unknown symbol as none.
 
 use port::{Tree, kind, sub};
 
-use crate::hits::{Hit, Hits};
+use crate::hits::{Hit, Hits, LISTED_CHILD, LISTED_LEFT, LISTED_RIGHT};
 
 /// The tests that listing this tree under this list comes to.
 pub fn of_list(tree: Tree, yes: &[u32]) -> Hits {
@@ -35,7 +36,26 @@ impl Walk<'_> {
                 self.nodes(tree.elements(i).filter_map(|e| tree.computed_key(e)));
                 self.nodes(tree.elements(i).filter_map(|e| tree.static_value(e)));
             }
+            kind::TEMPLATE => {
+                let children = tree.children(i);
+                children.for_each(|child| self.hits.hit_never(tree, child, &LISTED_CHILD));
+                self.nodes(tree.children(i));
+            }
+            kind::BINARY if tree.is_addition(i) => {
+                self.coerced(i + 1, tree.after(i + 1));
+                self.nodes(tree.children(i));
+            }
             _ => self.nodes(tree.children(i)),
+        }
+    }
+
+    /// The sides of an addition.
+    fn coerced(&mut self, left: usize, right: usize) {
+        let tree = self.tree;
+        if tree.has_string_part(left) {
+            self.hits.hit_never(tree, right, &LISTED_RIGHT);
+        } else if tree.is_string(right) {
+            self.hits.hit_never(tree, left, &LISTED_LEFT);
         }
     }
 

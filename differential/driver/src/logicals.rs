@@ -3,6 +3,7 @@
 use port::{kind, sub};
 
 use crate::file;
+use crate::never_symbol;
 use crate::random::Random;
 
 /// A copy in which binaries have become logicals, which take the same children.
@@ -16,6 +17,8 @@ pub fn with_logicals(random: &mut Random, file: &[u8]) -> Vec<u8> {
             record[2] = random.pick(&[sub::AND, sub::OR]);
         }
     }
+    // A logical counts by its string fact, where the addition that it was did not.
+    never_symbol::take_back_yes(&mut file);
     file
 }
 

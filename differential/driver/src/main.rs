@@ -16,6 +16,7 @@ use driver::reductions;
 use driver::run;
 use driver::side::{Port, Side};
 use driver::speed;
+use driver::sums;
 #[cfg(feature = "library")]
 use driver::under_damage;
 use std::io::{self, BufWriter, Read, Write};
@@ -144,6 +145,8 @@ fn run(arguments: &Arguments) -> Result<String, String> {
     }
     run::rows(&mut comparator)?;
     run::conditional_rows(&mut comparator)?;
+    run::never_symbol_rows(&mut comparator)?;
+    let sums = sums::go(&mut comparator)?;
     run::edges(&mut comparator)?;
     let list = fixed::decode(fixed::LIST).ok_or("the fixed list cannot be read")?;
     run::fixed_list(&mut comparator, &list)?;
@@ -153,6 +156,7 @@ fn run(arguments: &Arguments) -> Result<String, String> {
     let tally = comparator.finish()?;
     report(&tally, arguments, list.len(), questions);
     println!("  {}", every_list(small));
+    println!("  {} files of additions in each other, {} of them refused", sums.0 + sums.1, sums.1);
     run::met_enough(&tally)?;
     Ok(passed(&tally))
 }
@@ -169,9 +173,20 @@ fn run_conditionals(arguments: &Arguments) -> Result<String, String> {
     println!("  of the lists of trees that Reduce takes, {holds} premise-true, {fails} not");
     report_sides(&tally);
     if arguments.oracle.is_some() {
-        println!("  oracle: {} trees, 0 different", tally.oracle_trees);
+        println!("  {}", held_to_oracle(&tally));
     }
+    println!("  {}", left_out(&tally));
     Ok(passed(&tally))
+}
+
+/// The copies are those with "no" recorded on each of the six that can never be a symbol.
+fn held_to_oracle(tally: &Tally) -> String {
+    let (copies, all) = (tally.left_out, tally.oracle_trees);
+    format!("oracle: {} trees as they are, and {copies} copies, 0 different", all - copies)
+}
+
+fn left_out(tally: &Tally) -> String {
+    format!("{} trees left out, as recorded facts do not agree, for their copies", tally.left_out)
 }
 
 fn every_list(small: conditionals::Tally) -> String {
@@ -193,11 +208,12 @@ fn report(tally: &Tally, arguments: &Arguments, listed: usize, questions: u64) {
     let (holds, fails) = (tally.premise_true_given, tally.premise_false_given);
     println!("  under lists of places that count as yes, {holds} premise-true, {fails} not");
     println!("  {} files with logicals, for List effects", tally.listed);
+    println!("  {}", left_out(tally));
     match arguments.oracle {
-        Some(_) => println!(
-            "  oracle: {} trees and {questions} Derived questions, 0 different",
-            tally.oracle_trees
-        ),
+        Some(_) => {
+            println!("  {}", held_to_oracle(tally));
+            println!("    and {questions} Derived questions, 0 different");
+        }
         None => println!("  {questions} Derived questions, no oracle"),
     }
     report_sides(tally);

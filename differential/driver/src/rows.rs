@@ -25,6 +25,10 @@ impl Node {
         Node { text, ..self }
     }
 
+    pub fn no_symbol_if(self, condition: bool) -> Node {
+        Node { facts: self.facts | if condition { NO_SYMBOL } else { 0 }, ..self }
+    }
+
     /// The tree's file with all settings off.
     pub fn file(&self) -> Vec<u8> {
         let mut records = Vec::new();

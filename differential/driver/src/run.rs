@@ -10,6 +10,7 @@ use crate::file;
 use crate::fixed::Case;
 use crate::hits::LEAST;
 use crate::logicals;
+use crate::never_symbol_rows;
 use crate::oracle::Oracle;
 use crate::random::Random;
 use crate::rows;
@@ -104,6 +105,24 @@ pub fn conditional_rows(comparator: &mut Comparator) -> Result<(), Difference> {
     comparator.accepted(&file, 0, &many)
 }
 
+/// Rows of document 02, N9: what is left and listed where one of the six is of unknown symbol, and what is
+/// refused where one is said to be a symbol.
+pub fn never_symbol_rows(comparator: &mut Comparator) -> Result<(), Difference> {
+    for (row, tree, answer) in never_symbol_rows::rows() {
+        let expected = answer.map_or_else(Vec::new, |answer| answer.file());
+        comparator.answers(&tree.file(), &expected).map_err(|seen| format!("{row}: {seen}"))?;
+    }
+    for (row, tree, effects) in never_symbol_rows::effects() {
+        let held = comparator.effects(&tree.file(), &[], &effects);
+        held.map_err(|seen| format!("{row}: {seen}"))?;
+    }
+    for (row, file, reduce, list) in never_symbol_rows::refused() {
+        let held = comparator.refused(&Damaged::whole(file, reduce, list), &[1]);
+        held.map_err(|seen| format!("{row}: {seen}"))?;
+    }
+    Ok(())
+}
+
 /// The oracle's answers, as listed.
 pub fn fixed_list(comparator: &mut Comparator, cases: &[Case]) -> Result<(), Difference> {
     for (i, case) in cases.iter().enumerate() {
@@ -174,6 +193,8 @@ pub fn met_enough(tally: &Tally) -> Result<(), Difference> {
         }
     }
     let others = [
+        ("trees whose facts do not agree", tally.left_out),
+        ("trees whose facts agree", tally.trees - tally.left_out),
         ("premise true", tally.premise_true),
         ("premise not true", tally.premise_false),
         ("premise true under a list", tally.premise_true_given),

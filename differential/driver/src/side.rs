@@ -41,6 +41,11 @@ pub trait Side {
 
     /// Refusals 1 to 8 (0: accepted), if the side offers the check by itself.
     fn check(&self, file: &[u8], limits: Limits) -> Option<u8>;
+
+    /// The premise of demand 3 under this list, if the side offers it; the port's is what it is held to.
+    fn premise(&self, _file: &[u8], _yes: &[u32]) -> Option<bool> {
+        None
+    }
 }
 
 pub struct Port;

@@ -56,6 +56,14 @@ pub fn choosing_files(records: usize, seed: u64) -> Vec<Vec<u8>> {
     (0..count(records)).map(|_| trees::choosing_file(&mut random, records)).collect()
 }
 
+/// Files of chains of so many additions of unknown symbol, in templates or on the right of strings.
+pub fn chains_files(records: usize, additions: usize, right: bool, seed: u64) -> Vec<Vec<u8>> {
+    let mut random = Random::new(seed);
+    (0..count(records))
+        .map(|_| trees::chains_file(&mut random, records, additions, right))
+        .collect()
+}
+
 /// Of the records of all files, the share of expressions that Reduce comes to, and the records of
 /// the answers by those of the files.
 pub fn walked(files: &[Vec<u8>], side: &dyn Side) -> (f64, f64) {

@@ -4,6 +4,7 @@
 use port::{Limits, element, kind, sub};
 
 use crate::file;
+use crate::never_symbol;
 use crate::random::Random;
 
 /// A file that Reduce takes.
@@ -12,6 +13,7 @@ pub fn file(random: &mut Random) -> Vec<u8> {
     match grower.random.below(400) {
         0 => grower.wide(Limits::REDUCE.records),
         1..=10 => grower.deep(Limits::REDUCE.depth),
+        11..=70 => grower.never_symbols(),
         _ => grower.any(),
     }
     grower.file()
@@ -60,6 +62,7 @@ pub fn walked_file(random: &mut Random, records: usize) -> Vec<u8> {
         let head = walked(random, &file, i, under);
         file::record_mut(&mut file, i)[..3].copy_from_slice(&head);
     }
+    never_symbol::take_back_yes(&mut file);
     file
 }
 
@@ -107,6 +110,37 @@ pub fn deep_file(random: &mut Random, depth: usize) -> Vec<u8> {
     grower.file()
 }
 
+/// A left chain of so many additions over leaves, of which `string` are strings: the number of a leaf is
+/// that of the additions that it is a part of.
+pub fn chain_file(random: &mut Random, additions: usize, string: &[usize]) -> Vec<u8> {
+    let mut grower = Grower::new(random, COMPOUNDS);
+    grower.chain(additions, string);
+    grower.file()
+}
+
+/// Of about so many records, and without any string: chains of so many additions, all of whose symbol
+/// facts are unknown, in a template or each on the right of a string.
+pub fn chains_file(random: &mut Random, records: usize, additions: usize, right: bool) -> Vec<u8> {
+    let mut grower = Grower::new(random, COMPOUNDS);
+    let root = grower.open(if right { kind::SEQUENCE } else { kind::TEMPLATE }, 0);
+    let mut count = 0;
+    while grower.records.len() + 2 * additions + 3 <= records {
+        let sum = right.then(|| grower.open(kind::BINARY, sub::ADDITION));
+        sum.iter().for_each(|_| grower.leaf(kind::STRING_LITERAL, 0));
+        grower.chain(additions, &[]);
+        sum.iter().for_each(|&sum| grower.close(sum, 2));
+        count += 1;
+    }
+    grower.close(root, count);
+    let mut file = grower.file();
+    for i in 0..file::count(&file) {
+        let record = file::record_mut(&mut file, i);
+        // All are flagged, and no symbol fact is known but that of a string.
+        record[1] = if record[0] == kind::STRING_LITERAL { record[1] } else { 1 };
+    }
+    file
+}
+
 /// Sets flags until every clear flag that the reduction reads is true under each of the lists of
 /// places that count as yes: each such node then has an empty effect list.
 pub fn make_premise_true(file: &mut [u8], lists: &[Vec<u32>]) {
@@ -140,6 +174,8 @@ struct Temper {
     /// A kind that comes up more often.
     focus: u8,
     places: usize,
+    /// "No" is recorded on each of the six that can never be a symbol. Else they are as drawn.
+    agrees: bool,
 }
 
 impl Temper {
@@ -154,6 +190,7 @@ impl Temper {
             compounds,
             focus: random.pick(compounds),
             places: random.below(4),
+            agrees: random.chance(48),
         }
     }
 }
@@ -207,6 +244,11 @@ impl<'r> Grower<'r> {
         file.push(self.temper.settings);
         file.extend((self.records.len() as u16).to_le_bytes());
         file.extend(self.records.concat());
+        if self.temper.agrees {
+            never_symbol::record_no(&mut file);
+        } else {
+            never_symbol::take_back_yes(&mut file);
+        }
         file
     }
 
@@ -224,6 +266,93 @@ impl<'r> Grower<'r> {
         } else {
             self.expression(room, depth);
         }
+    }
+
+    /// Where what can never be a symbol is read: in templates and on both sides of additions. In most
+    /// of these trees some are of unknown symbol.
+    fn never_symbols(&mut self) {
+        self.temper.agrees = self.random.chance(64);
+        let at = self.open(kind::SEQUENCE, 0);
+        let count = self.random.between(1, 6);
+        for _ in 0..count {
+            match self.random.below(4) {
+                0 => self.template_of_six(),
+                1 => self.sum(|s| s.leaf(kind::STRING_LITERAL, 0), Self::one_of_six),
+                2 => self.sum(Self::one_of_six, |s| s.leaf(kind::STRING_LITERAL, 0)),
+                _ => self.sum(
+                    |s| s.sum(|s| s.leaf(kind::STRING_LITERAL, 0), Self::one_of_six),
+                    |s| s.expression(4, 4),
+                ),
+            }
+        }
+        self.close(at, count);
+    }
+
+    fn template_of_six(&mut self) {
+        let at = self.open(kind::TEMPLATE, 0);
+        let count = self.random.between(1, 4);
+        for _ in 0..count {
+            match self.random.below(3) {
+                0 => self.expression(4, 4),
+                _ => self.one_of_six(),
+            }
+        }
+        self.close(at, count);
+    }
+
+    /// One of the six, or nearly: other unary, or an addition whose right side alone has a string part,
+    /// whose left one is but recorded as a string, or which has none.
+    fn one_of_six(&mut self) {
+        let at = self.records.len();
+        match self.random.below(11) {
+            0 => self.sum(|s| s.leaf(kind::IDENTIFIER, 0), |s| s.leaf(kind::THIS, 0)),
+            sub @ 1..=4 => {
+                self.open(kind::UNARY, sub as u8);
+                self.expression(4, 4);
+                self.close(at, 1);
+            }
+            5 => {
+                self.open(kind::BINARY, sub::COMPARISON);
+                self.expression(4, 4);
+                self.expression(4, 4);
+                self.close(at, 2);
+            }
+            6 => self.plain_list(kind::TEMPLATE, 5, 4),
+            7 => {
+                let plain = |s: &mut Self| s.leaf(kind::IDENTIFIER, 0);
+                let string = |s: &mut Self| s.leaf(kind::STRING_LITERAL, 0);
+                self.sum(plain, |s| s.sum(plain, string));
+            }
+            8 => self.sum(Self::recorded_as_string, |s| s.leaf(kind::IDENTIFIER, 0)),
+            _ => self.sum(|s| s.expression(4, 4), |s| s.leaf(kind::STRING_LITERAL, 0)),
+        }
+        let facts = &mut self.records[at][1];
+        if self.random.chance(160) {
+            *facts &= !1;
+        }
+        // Unknown; string yes would need no.
+        if self.random.chance(192) {
+            *facts &= !22;
+        }
+    }
+
+    /// An addition that is recorded as a string, and has no part that is.
+    fn recorded_as_string(&mut self) {
+        let at = self.records.len();
+        self.sum(|s| s.leaf(kind::THIS, 0), |s| s.leaf(kind::IDENTIFIER, 0));
+        self.records[at][1] = 18;
+        self.records[at + 1..].iter_mut().for_each(|leaf| leaf[1] &= !24);
+    }
+
+    /// An addition, which is folded only if flagged.
+    fn sum(&mut self, left: impl FnOnce(&mut Self), right: impl FnOnce(&mut Self)) {
+        let at = self.open(kind::BINARY, sub::ADDITION);
+        left(self);
+        right(self);
+        if self.random.chance(192) {
+            self.records[at][1] |= 1;
+        }
+        self.close(at, 2);
     }
 
     fn wide(&mut self, most: usize) {
@@ -604,6 +733,22 @@ impl<'r> Grower<'r> {
     }
 
     // Edges.
+
+    fn chain(&mut self, additions: usize, string: &[usize]) {
+        let first = self.records.len();
+        (0..additions).for_each(|_| _ = self.open(kind::BINARY, sub::ADDITION));
+        for parts in (1..=additions).rev() {
+            // The lowest addition has two leaves that are parts of all.
+            for _ in 0..if parts == additions { 2 } else { 1 } {
+                let is_string = string.contains(&parts);
+                self.leaf(if is_string { kind::STRING_LITERAL } else { kind::IDENTIFIER }, 0);
+                // Only a string can have the string fact.
+                let facts = &mut self.records.last_mut().expect("a leaf")[1];
+                *facts = if is_string { 18 } else { *facts & !24 };
+            }
+            self.close(first + parts - 1, 2);
+        }
+    }
 
     /// A sequence of exactly so many records.
     fn exactly(&mut self, records: usize) {

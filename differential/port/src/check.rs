@@ -1,6 +1,8 @@
 //! Refusals 1 to 8.
 
-use super::tree::{HEADER_SIZE, LITERAL_FACTS, RECORD_SIZE, Record, Tree, element, kind, sub};
+use super::tree::{
+    HEADER_SIZE, LITERAL_FACTS, RECORD_SIZE, Record, Tree, element, is_never_symbol, kind, sub,
+};
 
 /// How many records a file may have, how deep its tree may be, and whether logical nodes are taken.
 #[derive(Clone, Copy, PartialEq, Eq)]
@@ -28,8 +30,10 @@ const MAX_DEPTH: usize = 254;
 pub fn check(file: &[u8], limits: Limits) -> Result<Tree<'_>, u8> {
     let tree = check_header(file, limits.records)?;
     check_records(tree.records, limits.logicals)?;
-    check_shape(tree, limits.depth)?;
-    Ok(tree)
+    let depth = check_shape(tree)?;
+    check_additions(tree)?;
+    // "8 depth over 64 (root 1)."
+    if depth > limits.depth.min(MAX_DEPTH) { Err(8) } else { Ok(tree) }
 }
 
 /// "1 under 8 bytes or mark wrong; 2 version; 3 setting bits 3–7; 4 count not 1–2,000, or length
@@ -81,18 +85,22 @@ const ALLOWED_FACTS: [u8; KINDS] =
 /// Kinds 0 to 22.
 const KINDS: usize = 23;
 
-/// Whether a record passes 5. The tables stand for the two functions below, byte by byte: kinds
+/// Whether a record passes 5. The tables stand for the functions below, byte by byte: kinds
 /// follow each other irregularly, and a branch by kind would often be mispredicted.
 #[inline]
 fn is_good(record: &Record) -> bool {
     let [kind, facts, sub, zero, ..] = *record;
     match (GOOD_FACTS.get(kind as usize), GOOD_SUBS.get(kind as usize)) {
         (Some(good_facts), Some(good_subs)) => {
+            let good_subs = good_subs[usize::from(facts & SYMBOL_YES != 0)];
             good_facts.has(facts) & good_subs.has(sub) & (zero == 0)
         }
         _ => false,
     }
 }
+
+/// The bit that is set in facts with symbol yes, 2, and among good facts in these alone.
+const SYMBOL_YES: u8 = 4;
 
 /// A set of bytes.
 #[derive(Clone, Copy)]
@@ -110,22 +118,36 @@ impl Bytes {
     }
 }
 
-static GOOD_FACTS: [Bytes; KINDS] = good_bytes(true);
-static GOOD_SUBS: [Bytes; KINDS] = good_bytes(false);
-
-/// For each kind, the good facts or the good subs. There is no kind 0.
-const fn good_bytes(facts: bool) -> [Bytes; KINDS] {
+/// For each kind, the good facts. There is no kind 0.
+static GOOD_FACTS: [Bytes; KINDS] = {
     let mut sets = [Bytes([0; 4]); KINDS];
     let mut number = 256;
     while number < KINDS * 256 {
         let (kind, byte) = ((number / 256) as u8, (number % 256) as u8);
-        if if facts { are_facts_good(kind, byte) } else { is_sub_good(kind, byte) } {
+        if are_facts_good(kind, byte) {
             sets[kind as usize] = sets[kind as usize].with(byte);
         }
         number += 1;
     }
     sets
-}
+};
+
+/// The same of subs, and second of those with symbol yes: that is refused where there can be none,
+/// "for the addition just after the tree's shape is tested" (02, N9).
+static GOOD_SUBS: [[Bytes; 2]; KINDS] = {
+    let mut sets = [[Bytes([0; 4]); 2]; KINDS];
+    let mut number = 256;
+    while number < KINDS * 256 {
+        let (kind, byte) = ((number / 256) as u8, (number % 256) as u8);
+        let [any, yes] = sets[kind as usize];
+        if is_sub_good(kind, byte) {
+            let yes = if is_never_symbol(kind, byte) { yes } else { yes.with(byte) };
+            sets[kind as usize] = [any.with(byte), yes];
+        }
+        number += 1;
+    }
+    sets
+};
 
 /// "A literal has exactly 18. String yes needs symbol no; 3 is bad in either pair."
 const fn are_facts_good(kind: u8, facts: u8) -> bool {
@@ -162,11 +184,11 @@ const fn is_element_sub_good(sub: u8) -> bool {
     }
 }
 
-/// "7 child counts, subtree sizes (the root's is N), or a kind where it may not stand; 8 depth
-/// over 64 (root 1)." Every record's children, walked by their sizes, end exactly at its own end;
-/// with the root's size this makes the records one tree. Each record is a child once, and gets its
-/// depth then.
-fn check_shape(tree: Tree, max_depth: usize) -> Result<(), u8> {
+/// "7 child counts, subtree sizes (the root's is N), or a kind where it may not stand." Every
+/// record's children, walked by their sizes, end exactly at its own end; with the root's size this
+/// makes the records one tree. Each record is a child once, and gets its depth then. Answers with the
+/// greatest.
+fn check_shape(tree: Tree) -> Result<usize, u8> {
     if tree.size(0) != tree.records.len() || !EXPRESSIONS.has(tree.kind(0)) {
         return Err(7);
     }
@@ -178,7 +200,23 @@ fn check_shape(tree: Tree, max_depth: usize) -> Result<(), u8> {
             return Err(7);
         }
     }
-    if usize::from(deepest) > max_depth.min(MAX_DEPTH) { Err(8) } else { Ok(()) }
+    Ok(deepest.into())
+}
+
+/// "A recorded 'yes' on one is refused as bad facts, for the addition just after the tree's shape is
+/// tested" (02, N9). A left child is the record behind its parent, so a chain of additions is a run of
+/// records: a string at any of its right sides, or at its end, is a part of each addition before.
+fn check_additions(tree: Tree) -> Result<(), u8> {
+    let mut yes = false;
+    for i in 0..tree.records.len() {
+        let goes_on = tree.is_addition(i);
+        yes |= goes_on && tree.symbol(i) == 2;
+        if yes && tree.is_string(if goes_on { tree.after(i + 1) } else { i }) {
+            return Err(5);
+        }
+        yes &= goes_on;
+    }
+    Ok(())
 }
 
 fn are_children_good(tree: Tree, i: usize, depths: &mut [u8; MAX_RECORDS]) -> bool {

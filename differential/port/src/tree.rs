@@ -152,10 +152,35 @@ impl<'a> Tree<'a> {
         self.facts(i) & 1 != 0
     }
 
-    /// "'Possible symbol': not 1."
+    /// "'Possible symbol': not 1." Of what can never be one, "reducing and listing now read 'no' ...,
+    /// recorded or not" (02, N9).
     #[inline]
     pub fn possible_symbol(self, i: usize) -> bool {
-        self.facts(i) >> 1 & 3 != 1
+        self.symbol(i) != 1 && !self.is_never_symbol(i)
+    }
+
+    /// The symbol fact, as recorded.
+    #[inline]
+    pub fn symbol(self, i: usize) -> u8 {
+        self.facts(i) >> 1 & 3
+    }
+
+    /// "`!a`, `typeof a`, `void a`, a comparison, a template, or an addition with a string part as
+    /// document 01 reads it on the left" (02, N9).
+    pub fn is_never_symbol(self, i: usize) -> bool {
+        is_never_symbol(self.kind(i), self.sub(i)) || self.is_addition(i) && self.has_string_part(i)
+    }
+
+    /// "An addition on the left is a string if its left or its right is; any other side by its string
+    /// fact." The left child of an addition is the record behind it.
+    pub fn has_string_part(self, mut i: usize) -> bool {
+        while self.is_addition(i) {
+            if self.is_string(self.after(i + 1)) {
+                return true;
+            }
+            i += 1;
+        }
+        self.is_string(i)
     }
 
     #[inline]
@@ -293,6 +318,15 @@ impl<'a> Tree<'a> {
                     || self.is_nonempty_block(e)
                     || self.static_value(e).is_some_and(|value| self.flagged(value))
             })
+    }
+}
+
+/// The five of the six that kind and sub tell.
+pub const fn is_never_symbol(kind: u8, sub: u8) -> bool {
+    match kind {
+        kind::UNARY => matches!(sub, sub::VOID | sub::NOT | sub::TYPEOF),
+        kind::BINARY => sub == sub::COMPARISON,
+        _ => kind == kind::TEMPLATE,
     }
 }
 

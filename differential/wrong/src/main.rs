@@ -14,7 +14,7 @@ use driver::oracle::Oracle;
 use driver::random::Random;
 use driver::run::{self, Drawn};
 use driver::side::{Answer, Listing, Port, Reduction, Side};
-use driver::{derived, file, fixed};
+use driver::{derived, file, fixed, never_symbol};
 use port::Limits;
 use std::fmt::{self, Display, Formatter};
 use std::panic::{self, AssertUnwindSafe};
@@ -75,6 +75,11 @@ macro_rules! wrong {
             /// Not offered: a wrong check must be found by what the operations answer.
             fn check(&self, _: &[u8], _: Limits) -> Option<u8> {
                 None
+            }
+
+            fn premise(&self, file: &[u8], yes: &[u32]) -> Option<bool> {
+                let tree = $port::check(file, $port::Limits::REDUCE).ok()?;
+                Some($port::premise(tree, &$port::outcomes(tree), yes))
             }
         }
 
@@ -200,7 +205,8 @@ fn held(
     derived::refused(comparator, random)
 }
 
-/// The oracle's answers to the same trees, and to as many Derived questions.
+/// The oracle's answers to copies of the same trees, with "no" recorded on each of the six that can never
+/// be a symbol, and to as many Derived questions.
 struct OracleSays {
     trees: Trees,
     reduced: Vec<Vec<u8>>,
@@ -213,7 +219,8 @@ type Question = (Vec<u8>, Vec<u8>);
 impl OracleSays {
     fn ask(path: &str, trees: Trees) -> io::Result<OracleSays> {
         let mut oracle = Oracle::start(path)?;
-        let files: Vec<Vec<u8>> = (0..trees.count).map(|i| run::tree(trees.seed, i).file).collect();
+        let copy = |i: u64| never_symbol::with_no(&run::tree(trees.seed, i).file);
+        let files: Vec<Vec<u8>> = (0..trees.count).map(copy).collect();
         let reduced = oracle.reduce(&files)?;
         let mut random = Random::new(trees.seed);
         let questions: Vec<_> = files.iter().map(|_| derived::question(&mut random)).collect();
@@ -222,12 +229,16 @@ impl OracleSays {
         Ok(OracleSays { trees, reduced, derived: questions.into_iter().zip(answers).collect() })
     }
 
-    /// How many trees it takes until the side differs from the oracle.
+    /// How many trees it takes until the side differs from the oracle; on the tree itself, but for the
+    /// recorded bits.
     fn search(&self, side: &dyn Side) -> Option<u64> {
+        let with_no = never_symbol::answer_with_no;
         first(self.trees.count, |i| {
             let Drawn { file, .. } = run::tree(self.trees.seed, i);
             let ((scopes, ancestors), yes) = &self.derived[i as usize];
-            reduced(side, &file) == self.reduced[i as usize]
+            let (copy, theirs) = (never_symbol::with_no(&file), &self.reduced[i as usize]);
+            reduced(side, &copy) == *theirs
+                && with_no(&reduced(side, &file)) == with_no(theirs)
                 && (side.derived(scopes, ancestors) == Answer::Yes) == *yes
         })
     }

@@ -14,8 +14,8 @@ use Rattle.addition.proofs.+fold_string_addition_chain.Lts-fold_string_
 use Rattle.addition.proofs.fold_sides.Reads as fold-sides-reads
 use Rattle.fields.proofs.subtree_at.Reads as subtree-at-reads
 use Rattle.output.proofs.copy_tree.Reads as copy-tree-reads
-use Rattle.readings.proofs.is_addition.Reads as is-addition-reads
-use Rattle.readings.proofs.string_fact_at.Reads as string-fact-at-reads
+use Rattle.fields.proofs.is_addition.Reads as is-addition-reads
+use Rattle.fields.proofs.string_fact_at.Reads as string-fact-at-reads
 use Rattle.addition.proofs.+fold_string_addition_chain.{statement}
 use Rattle.addition.proofs.+fold_string_addition_chain.Tie.{close}
 

@@ -1,6 +1,6 @@
 use native.Mathlib.Omega.{arith}
 use mathlib.Core.Path.{refl}
-use Rattle.output.specs.Given.{given-inside}
+use Rattle.output.specs.Given.{given-node}
 use Rattle.addition.specs.Sides.{emptied-some, emptied-within, emptied-room, right-room, right-after, right-within, dropped-done, kept-done, other-done}
 use borrow.Author.Needs.{needs}
 use Rattle.addition.proofs.fold_sides.Statement.{statement}
@@ -13,7 +13,7 @@ empty-unless-flagged-requires : tie.Need-empty-unless-flagged-requires
 empty-unless-flagged-requires c κs = c .before .before .before .before .pre .left
 
 is-dropped-right-requires : tie.Need-is-dropped-right-requires
-is-dropped-right-requires c κs = given-inside (c .before .before .before .before .before .before .before .pre .right-given)
+is-dropped-right-requires c κs = given-node (c .before .before .before .before .before .before .before .pre .right-given)
 
 sub-move-down : tie.Need-sub-move-down
 sub-move-down c = omega (arith, emptied-some (c .before .before .before .before .before .before .before .before .before .before .pre .left) (c .before .before .before .before .before .empty-unless-flagged .ensures))

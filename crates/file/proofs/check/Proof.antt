@@ -6,10 +6,10 @@ use borrow.Author.Tests.{not-true, not-false, eq-eqb, ne-eqb, lt-ltb, le-ltb}
 use Rattle.tree.specs.Below.{allBelow}
 use Rattle.tree.specs.Fields.{headAt}
 use Rattle.tree.specs.Record.{recordOk, taken}
-use Rattle.tree.specs.Refusal.{markOk, versionOk, settingsOk, shapeOk}
+use Rattle.tree.specs.Refusal.{markOk, versionOk, settingsOk, shapeOk, additionsOk}
 use Rattle.tree.specs.Accepted.{mark-long}
 use Rattle.file.specs.Answer.{limitsOf}
-use Rattle.file.specs.Run.{refused-1, refused-2, refused-3, refused-4, Headed, headed-inside, headed-some, refused-5, refused-6, refused-7, held, refused-8, accepted-as}
+use Rattle.file.specs.Run.{refused-1, refused-2, refused-3, refused-4, Headed, headed-inside, headed-some, refused-5, refused-6, refused-7, whole, refused-5-again, held, refused-8, accepted-as}
 use borrow.Author.Needs.{needs}
 use Rattle.file.proofs.check.Statement.{statement}
 use Rattle.file.proofs.check.Tie as tie
@@ -42,6 +42,9 @@ inside c = sym (c .before .all-taken .ensures) ∙ not-false _ (c .if6 .left)
 
 shaped : (c : tie.Else7) → shapeOk (c .before .before .before .before .before .before .before .before .before .before .before .before .before .before .before .before .args .src .now) ≡ true
 shaped c = sym (c .before .shape-ok .ensures) ∙ not-false _ (c .if7 .left)
+
+added : (c : tie.Else8) → additionsOk (c .before .before .before .before .before .before .before .before .before .before .before .before .before .before .before .before .before .before .args .src .now) ≡ true
+added c = sym (c .before .additions-ok .ensures) ∙ not-false _ (c .if8 .left)
 
 mark-ok-requires : tie.Need-mark-ok-requires
 mark-ok-requires c κs = search needs
@@ -90,14 +93,20 @@ shape-ok-requires c κs = (headed-inside (headed (c .before .before .before .bef
 returns-7 : tie.Need-returns-7
 returns-7 c = refused-7 (headed (c .before .before .before .before .before .before)) (recorded (c .before .before .before .before)) (inside (c .before .before)) (sym (c .before .shape-ok .ensures) ∙ not-true _ (c .if7 .taken))
 
-levels-ok-requires : tie.Need-levels-ok-requires
-levels-ok-requires c κs = held (headed (c .before .before .before .before .before .before)) (recorded (c .before .before .before .before)) (inside (c .before .before)) (shaped c)
+additions-ok-requires : tie.Need-additions-ok-requires
+additions-ok-requires c κs = whole (headed (c .before .before .before .before .before .before)) (recorded (c .before .before .before .before)) (inside (c .before .before)) (shaped (c))
 
 returns-8 : tie.Need-returns-8
-returns-8 c = refused-8 (headed (c .before .before .before .before .before .before .before .before)) (recorded (c .before .before .before .before .before .before)) (inside (c .before .before .before .before)) (shaped (c .before .before)) _ (c .before .levels-ok .ensures) (not-true _ (c .if8 .taken))
+returns-8 c = refused-5-again (headed (c .before .before .before .before .before .before .before .before)) (recorded (c .before .before .before .before .before .before)) (inside (c .before .before .before .before)) (shaped (c .before .before)) (sym (c .before .additions-ok .ensures) ∙ not-true _ (c .if8 .taken))
+
+levels-ok-requires : tie.Need-levels-ok-requires
+levels-ok-requires c κs = held (headed (c .before .before .before .before .before .before .before .before)) (recorded (c .before .before .before .before .before .before)) (inside (c .before .before .before .before)) (shaped (c .before .before))
 
 returns-9 : tie.Need-returns-9
-returns-9 c = accepted-as (headed (c .before .before .before .before .before .before .before .before)) (recorded (c .before .before .before .before .before .before)) (inside (c .before .before .before .before)) (shaped (c .before .before)) _ (c .before .levels-ok .ensures) (not-false _ (c .if8 .left))
+returns-9 c = refused-8 (headed (c .before .before .before .before .before .before .before .before .before .before)) (recorded (c .before .before .before .before .before .before .before .before)) (inside (c .before .before .before .before .before .before)) (shaped (c .before .before .before .before)) (added (c .before .before)) _ (c .before .levels-ok .ensures) (not-true _ (c .if9 .taken))
+
+returns-10 : tie.Need-returns-10
+returns-10 c = accepted-as (headed (c .before .before .before .before .before .before .before .before .before .before)) (recorded (c .before .before .before .before .before .before .before .before)) (inside (c .before .before .before .before .before .before)) (shaped (c .before .before .before .before)) (added (c .before .before)) _ (c .before .levels-ok .ensures) (not-false _ (c .if9 .left))
 
 pub check-spec : {M : Type 1} → statement M
 check-spec =
@@ -118,6 +127,8 @@ check-spec =
     returns-6
     shape-ok-requires
     returns-7
-    levels-ok-requires
+    additions-ok-requires
     returns-8
-    returns-9)
+    levels-ok-requires
+    returns-9
+    returns-10)

@@ -6,7 +6,7 @@ use borrow.Author.Tests.{eqb-true}
 use Rattle.tree.specs.Tree.{Forest, nil, node, Tree}
 use Rattle.tree.specs.Kind as kind
 use Rattle.tree.specs.Below.{and-both, and-left, and-right}
-use Rattle.tree.specs.Record.{recordOk, factsOk, literalOk, pairsOk, bitsWithin, allowedFacts, subOk}
+use Rattle.tree.specs.Record.{recordOk, factsOk, literalOk, symbolOk, pairsOk, bitsWithin, allowedFacts, subOk}
 use Rattle.tree.specs.Children.{nodeOk, formed, wellFormed}
 use Rattle.rules.specs.Handler.{isKind, isLiteral}
 use Rattle.rules.specs.Facts.{flagged}
@@ -54,8 +54,9 @@ literal-clear t g l =
     let h = t .head in
     let a = and-right (leb kind.literal (h .kind) && leb (h .kind) kind.assignment) (factsOk h && (subOk h && eqb (h .reserved) 0)) (good-head t g .recorded) in
     let b = and-left (factsOk h) (subOk h && eqb (h .reserved) 0) a in
-    let c = and-right (pairsOk (h .facts)) (literalOk h) (and-right (bitsWithin (allowedFacts (h .kind)) (h .facts)) (pairsOk (h .facts) && literalOk h) b) in
-    eighteen-clear t (eqb-true (h .facts) 18 (rw l at c))
+    let c = and-right (bitsWithin (allowedFacts (h .kind)) (h .facts)) (pairsOk (h .facts) && (literalOk h && symbolOk h)) b in
+    let d = and-left (literalOk h) (symbolOk h) (and-right (pairsOk (h .facts)) (literalOk h && symbolOk h) c) in
+    eighteen-clear t (eqb-true (h .facts) 18 (rw l at d))
 
 pub literals-clear : (t : Tree) → Everywhere NodeGood t → Everywhere LiteralClear t
 literals-clear = everywhere-map literal-clear

@@ -1,12 +1,13 @@
 -- Additions: a chain taken apart once, for every proof about its fold; and the fold keeps the chain's effects.
 use mathlib.Core.Bool.{Bool, true, false, cond, not, _&&_, _||_, true≢false}
 use mathlib.Core.List.{List, [], _∷_, _++_, map, append-assoc, append-nil}
-use mathlib.Core.Path.{_≡_, refl, sym, _∙_}
-use Rattle.tree.specs.Tree.{Tree, trees, recur-is, recur-made, paired, All, ind}
-use Rattle.rules.specs.Lists.{keepIf, ofTwo}
+use mathlib.Core.Path.{_≡_, refl, sym, _∙_, ap₂}
+use Rattle.tree.specs.Tree.{Tree, trees, recur-is, recur-made, paired, All, ind, ofTwo}
+use Rattle.tree.specs.Symbol.{isAddition, stringFact, isStringRule, isString, Sides, isString-sides}
+use Rattle.rules.specs.Lists.{keepIf}
 use Rattle.rules.specs.Settings.{Settings}
-use Rattle.rules.specs.Handler.{Handler, isKind, isLiteral, isAddition}
-use Rattle.rules.specs.Facts.{flagged, clear, stringFact, isStringRule, isString}
+use Rattle.rules.specs.Handler.{Handler, isLiteral}
+use Rattle.rules.specs.Facts.{flagged, clear}
 use Rattle.rules.specs.Made.{placeOf, emptyLiteral, withChildren}
 use Rattle.rules.specs.Addition.{emptiedUnlessFlagged, isDroppedRight, foldSides, foldRule, foldStringAdditionChain}
 use Rattle.rules.specs.Effects.{effects, itself, coercionNumber, coercion, additionEffect}
@@ -14,11 +15,6 @@ use Rattle.rules.specs.Reads.{sideReads, foldReadsRule, foldReads, NoEff
 use Rattle.rules.specs.Proofs.Lists.{by-cond, all-append}
 use Rattle.rules.specs.Proofs.Facts.{addition-handled, addition-no-literal, empty-string-fact, empty-string, same-flag, same-literal, same-symbol, dropped-no-symbol}
 use Rattle.rules.specs.Proofs.Effects.{own, stays-own, effects-empty}
-
--- An addition of two sides.
-pub record Sides (t l r : Tree) : Type 0 where
-  pub addition : isAddition t ≡ true
-  pub kids : trees (t .kids) ≡ l ∷ r ∷ []
 
 -- Any other node, of which a fold reads and changes nothing.
 pub record NoSides (t : Tree) : Type 0 where
@@ -57,12 +53,8 @@ pub foldReads-sides : (t l r : Tree) → Sides t l r → foldReads t ≡ foldRea
 unfolding foldReads foldReadsRule
 foldReads-sides t l r S = recur-is foldReadsRule t ∙ rw (S .addition, S .kids)
 
-pub isString-sides : (t l r : Tree) → Sides t l r → isString t ≡ (isString l || stringFact r)
-unfolding isString isStringRule
-isString-sides t l r S = recur-is isStringRule t ∙ rw (S .addition, S .kids)
-
 pub isString-stays : (t x y : Tree) → isAddition t ≡ true → isString (withChildren t (x ∷ y ∷ [])) ≡ (isString x || stringFact y)
-unfolding isString isStringRule withChildren isAddition isKind
+unfolding isString isStringRule withChildren isAddition
 isString-stays t x y e = recur-made isStringRule (t .head) (x ∷ y ∷ []) ∙ rw e
 
 pub emptied-string : (x : Tree) → isString x ≡ true → isString (emptiedUnlessFlagged x) ≡ true
@@ -72,6 +64,32 @@ emptied-string x e = by-cond (λ y. isString y ≡ true) (flagged x) x (emptyLit
 pub emptied-string-fact : (x : Tree) → stringFact x ≡ true → stringFact (emptiedUnlessFlagged x) ≡ true
 unfolding emptiedUnlessFlagged
 emptied-string-fact x e = by-cond (λ y. stringFact y ≡ true) (flagged x) x (emptyLiteral (placeOf x)) (λ _. e) (λ _. empty-string-fact (placeOf x))
+
+-- "folding keeps whether a side is a string": f is the left side l folded.
+module _ (t l r f : Tree) (S : Sides t l r) (w : isString f ≡ isString l) where
+  pub string-left : isString f ≡ true → isString (withChildren t (emptiedUnlessFlagged f ∷ r ∷ [])) ≡ isString t
+  string-left e = isString-stays t (emptiedUnlessFlagged f) r (S .addition) ∙ rw (emptied-string f e) (sym (isString-sides t l r S ∙ rw (sym w ∙ e)))
+
+  pub string-right : isString (withChildren t (f ∷ cond (stringFact r) (emptiedUnlessFlagged r) r ∷ [])) ≡ isString t
+  string-right =
+      isString-stays t f (cond (stringFact r) (emptiedUnlessFlagged r) r) (S .addition) ∙ ap₂ (_||_) w (right (stringFact r) refl) ∙ sym (isString-sides t l r S)
+    where
+      right : (b : Bool) → stringFact r ≡ b → stringFact (cond b (emptiedUnlessFlagged r) r) ≡ stringFact r
+      right true e = emptied-string-fact r e ∙ sym e
+      right false e = refl
+
+  fold-sides-string : isString (foldSides t f r) ≡ isString t
+  unfolding foldSides
+  fold-sides-string =
+      by-cond (λ x. isString x ≡ isString t) (isString f)
+      (cond (isDroppedRight r) (emptiedUnlessFlagged f) (withChildren t (emptiedUnlessFlagged f ∷ r ∷ []))) (withChildren t (f ∷ cond (stringFact r) (emptiedUnlessFlagged r) r ∷ []))
+      (λ e. by-cond (λ x. isString x ≡ isString t) (isDroppedRight r) (emptiedUnlessFlagged f) (withChildren t (emptiedUnlessFlagged f ∷ r ∷ []))
+      (λ _. emptied-string f e ∙ sym (isString-sides t l r S ∙ rw (sym w ∙ e))) (λ _. string-left e))
+      (λ _. string-right)
+
+pub fold-string : (t : Tree) → isString (foldStringAdditionChain t) ≡ isString t
+fold-string = by-chain (λ t. isString (foldStringAdditionChain t) ≡ isString t) (λ t n. rw (n .folds))
+    (λ t l r S h. rw (fold-sides t l r S) (fold-sides-string t l r (foldStringAdditionChain l) S h))
 
 same-coercion : (f t : Tree) → f .head ≡ t .head → isString f ≡ isString t → coercion f ≡ coercion t
 unfolding coercion coercionNumber itself
@@ -106,10 +124,9 @@ module _ (s : Settings) where
   effects-stays t l r e =
       stays-own s t Handler.addition (addition-handled t e) (l ∷ r ∷ []) ∙ rw (same-addition-effect t l r) (sides-in-order t l r)
 
-  -- A fold f of t: the same effects, the same string, and where that is none the same head; and a literal of no effect.
+  -- A fold f of t: the same effects, and the same head where it is no string; and a literal of no effect.
   pub record Folds (t f : Tree) : Type 0 where
     pub same : effects s f ≡ effects s t
-    pub string : isString f ≡ isString t
     pub front : isString t ≡ false → f .head ≡ t .head
     pub literal : isLiteral f ≡ true → effects s f ≡ []
 
@@ -127,7 +144,7 @@ module _ (s : Settings) where
       by-cond (λ y. isLiteral y ≡ true → effects s y ≡ []) (flagged x) x (emptyLiteral (placeOf x)) (λ _. h) (λ _ _. effects-empty s (placeOf x))
 
   -- One addition, its left side folded already.
-  module _ (t l r f : Tree) (S : Sides t l r) (F : Folds l f) where
+  module _ (t l r f : Tree) (S : Sides t l r) (w : isString f ≡ isString l) (F : Folds l f) where
     on-string : isString f ≡ true → NoEffects s (keepIf (clear f) f ++ keepIf (isDroppedRight r) r)
         → Folds t (cond (isDroppedRight r) (emptiedUnlessFlagged f) (withChildren t (emptiedUnlessFlagged f ∷ r ∷ [])))
     unfolding additionEffect
@@ -136,7 +153,7 @@ module _ (s : Settings) where
         go (isDroppedRight r) refl h₀ h₁
       where
         left : isString l ≡ true
-        left = sym (F .string) ∙ e
+        left = sym w ∙ e
 
         string : isString t ≡ true
         string = isString-sides t l r S ∙ rw left
@@ -148,13 +165,11 @@ module _ (s : Settings) where
             → Folds t (cond b (emptiedUnlessFlagged f) (withChildren t (emptiedUnlessFlagged f ∷ r ∷ [])))
         go true d h₀ h₁ = record {
           same = emptied-same f h₀ ∙ F .same ∙ sym (order ∙ rw (h₁ .0, no-coercion r d) (append-nil (effects s l)));
-          string = emptied-string f e ∙ sym string;
           front = λ n. absurd (true≢false (sym string ∙ n));
           literal = emptied-literal f (F .literal);
         }
         go false d h₀ h₁ = record {
           same = effects-stays t (emptiedUnlessFlagged f) r (S .addition) ∙ rw (emptied-string f e, emptied-same f h₀, F .same) (sym order);
-          string = isString-stays t (emptiedUnlessFlagged f) r (S .addition) ∙ rw (emptied-string f e, string);
           front = λ _. stays-head t (emptiedUnlessFlagged f ∷ r ∷ []);
           literal = λ w. absurd (stays-no-literal t (emptiedUnlessFlagged f ∷ r ∷ []) (S .addition) w);
         }
@@ -165,21 +180,19 @@ module _ (s : Settings) where
     on-other e = go (stringFact r) refl
       where
         left : isString l ≡ false
-        left = sym (F .string) ∙ e
+        left = sym w ∙ e
 
         go : (b : Bool) → stringFact r ≡ b → NoEffects s (keepIf (b && clear r) r) → Folds t (withChildren t (f ∷ cond b (emptiedUnlessFlagged r) r ∷ []))
-        go true w h = record {
+        go true v h = record {
           same = effects-stays t f (emptiedUnlessFlagged r) (S .addition)
-              ∙ rw (e, emptied-string-fact r w, emptied-same r h, F .same, same-coercion f l (F .front left) (F .string)) (sym (effects-sides t l r S ∙ rw (left, w)));
-          string = isString-stays t f (emptiedUnlessFlagged r) (S .addition) ∙ rw (e, emptied-string-fact r w) (sym (isString-sides t l r S ∙ rw (left, w)));
+              ∙ rw (e, emptied-string-fact r v, emptied-same r h, F .same, same-coercion f l (F .front left) w) (sym (effects-sides t l r S ∙ rw (left, v)));
           front = λ _. stays-head t (f ∷ emptiedUnlessFlagged r ∷ []);
-          literal = λ w. absurd (stays-no-literal t (f ∷ emptiedUnlessFlagged r ∷ []) (S .addition) w);
+          literal = λ x. absurd (stays-no-literal t (f ∷ emptiedUnlessFlagged r ∷ []) (S .addition) x);
         }
-        go false w h = record {
-          same = effects-stays t f r (S .addition) ∙ rw (e, w, F .same) (sym (effects-sides t l r S ∙ rw (left, w)));
-          string = isString-stays t f r (S .addition) ∙ rw (F .string) (sym (isString-sides t l r S));
+        go false v h = record {
+          same = effects-stays t f r (S .addition) ∙ rw (e, v, F .same) (sym (effects-sides t l r S ∙ rw (left, v)));
           front = λ _. stays-head t (f ∷ r ∷ []);
-          literal = λ w. absurd (stays-no-literal t (f ∷ r ∷ []) (S .addition) w);
+          literal = λ x. absurd (stays-no-literal t (f ∷ r ∷ []) (S .addition) x);
         }
 
     pub fold-step : NoEffects s (sideReads f r) → Folds t (foldSides t f r)

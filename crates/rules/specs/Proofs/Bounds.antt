@@ -9,10 +9,11 @@ use lib.Dec.{eqb}
 use Rattle.tree.specs.Below.{and-left, and-right}
 use Rattle.tree.specs.Tree.{Place, Tree, trees, forest, All, ind}
 use Rattle.tree.specs.Record.{bit}
+use Rattle.tree.specs.Symbol.{stringFact, isString, Sides}
 use Rattle.rules.specs.Lists.{any, every, keepIf, filter, concatMap}
 use Rattle.rules.specs.Settings.{Settings, derived}
 use Rattle.rules.specs.Handler.{Handler, handler, isLiteral, isSpread, isSequence}
-use Rattle.rules.specs.Facts.{flagged, stringFact, isString, possibleSymbol, pureNew, pureCall, hasSideEffectsOrPreservedIife, ofIdentifier, unchangedTemplate, onlySpreads, flaggedChild}
+use Rattle.rules.specs.Facts.{flagged, possibleSymbol, pureNew, pureCall, hasSideEffectsOrPreservedIife, ofIdentifier, unchangedTemplate, onlySpreads, flaggedChild}
 use Rattle.rules.specs.Made.{placeOf, makeSequence, makeTemplate, makeObject, makeArray, andSub, orSub, makeLogical, emptyLiteral, withChildren, joined, joinSequence}
 use Rattle.rules.specs.Addition.{emptiedUnlessFlagged, isDroppedRight, foldSides, foldStringAdditionChain}
 use Rattle.rules.specs.Class as class
@@ -21,7 +22,7 @@ use Rattle.rules.specs.Reduce.{Reduced, kept, noneOneSeveral, staysWith,
 use Rattle.rules.specs.Proofs.Lists.{by-cond, all-take, all-drop, always, take-map, drop-map}
 use Rattle.rules.specs.Proofs.Unfold.{reduced, reduce-is, kept-is}
 use Rattle.rules.specs.Proofs.Facts.{sequence-handled, spread-handled, addition-handled, array-handled, empty-handled, made-template-unchanged, made-object-only-spreads}
-use Rattle.rules.specs.Proofs.Addition.{Sides, NoSides, by-chain, fold-sides}
+use Rattle.rules.specs.Proofs.Addition.{NoSides, by-chain, fold-sides}
 use Rattle.rules.specs.Proofs.Scale.{Scale, sum, sum-one, sum-append, sum-split, sum-le, sum-append-le, sum-concatMap, sum-keep, sum-filter, left-le, right-le, own, own-made, measure-forest, wrapped}
 use Rattle.rules.specs.Proofs.Potential.{Measured, measured, overParts, overWaiting, overClass, wholeBy, whole, parts, mixed, whole-is, whole-made, overParts-is, overWaiting-is, overClass-is, parts-is, between}
 

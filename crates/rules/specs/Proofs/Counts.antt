@@ -6,13 +6,14 @@ use Prim.Native.Nat.{ℕ, suc, _+_, _*_, _≤_, zero-le, suc-le-suc}
 use native.Mathlib.Nat.{le-refl, le-trans}
 use native.Mathlib.Omega.{arith}
 use lib.ListN.{length, length-append, take, drop}
-use Rattle.tree.specs.Tree.{Tree, trees, size, All, ind}
+use Rattle.tree.specs.Tree.{Tree, trees, size, All, ind, ofTwo}
 use Rattle.tree.specs.Record.{bit}
+use Rattle.tree.specs.Symbol.{stringFact, isString}
 use Rattle.tree.specs.Children as children
-use Rattle.rules.specs.Lists.{keepIf, concatMap, ofTwo}
+use Rattle.rules.specs.Lists.{keepIf, concatMap}
 use Rattle.rules.specs.Settings.{Settings, derived}
 use Rattle.rules.specs.Handler.{Handler, handler}
-use Rattle.rules.specs.Facts.{flagged, stringFact, isString, possibleSymbol, ofIdentifier, pureNew, pureCall, testIsYes}
+use Rattle.rules.specs.Facts.{flagged, possibleSymbol, ofIdentifier, pureNew, pureCall, testIsYes}
 use Rattle.rules.specs.Class as class
 use Rattle.rules.specs.Conditional.{armsOf, consequentOf, alternateOf}
 use Rattle.rules.specs.Effects.{Evaluated, effects, effectsOf, effectsBy, itself, itselfIf, coercionNumber, coercion, additionEffect, childrenInOrder, classIsEffect, callEffects, testThen}

@@ -9,6 +9,7 @@ use lib.ListN.{length, drop}
 use borrow.Author.Tests.{not-false}
 use Rattle.tree.specs.Below.{and-right}
 use Rattle.tree.specs.Tree.{Place, Tree, trees, count, All, ind}
+use Rattle.tree.specs.Symbol.{Sides}
 use Rattle.rules.specs.Lists.{isEmpty, any, every, keepIf, concatMap, filter}
 use Rattle.rules.specs.Settings.{Settings, derived}
 use Rattle.rules.specs.Handler.{Handler, handler, isLiteral, isSpread}
@@ -26,7 +27,7 @@ use Rattle.rules.specs.Proofs.Unfold.{reduced, evaluated, readIn, reduce
 use Rattle.rules.specs.Proofs.Everywhere.{Everywhere, kids-everywhere}
 use Rattle.rules.specs.Proofs.Facts.{literal-handled, array-handled, NotKept, not-kept, no-flagged-value}
 use Rattle.rules.specs.Proofs.Effects.{whole, effectsOf-append, own, stays-own, effects-sequence, effects-object, coercedOf, coerced-is, coercedOf-append, effects-template, effects-joined, effects-conditional, effects-and, effects-or, effects-arms, staticEffects, class-is}
-use Rattle.rules.specs.Proofs.Addition.{Sides, NoSides, by-chain, fold-sides, foldReads-sides, Folds, fold-step}
+use Rattle.rules.specs.Proofs.Addition.{NoSides, by-chain, fold-sides, foldReads-sides, fold-string, Folds, fold-step}
 use Rattle.rules.specs.Proofs.Shape.{isExpr, exactly, three, NodeGood, good-kids}
 use Rattle.rules.specs.Proofs.Accepted.{LiteralClear, literals-clear}
 use Rattle.rules.specs.Proofs.Single.{at-most-one}
@@ -199,14 +200,14 @@ module _ (s : Settings) where
   chain = by-chain (λ t. Everywhere LiteralClear t → NoEffects s (foldReads t) → Folds s t (foldStringAdditionChain t)) other sum
     where
       other : (t : Tree) → NoSides t → Everywhere LiteralClear t → NoEffects s (foldReads t) → Folds s t (foldStringAdditionChain t)
-      other t n c h = rw (n .folds) (record { same = refl; string = refl; front = λ _. refl; literal = literal-no-effects t (c .0) })
+      other t n c h = rw (n .folds) (record { same = refl; front = λ _. refl; literal = literal-no-effects t (c .0) })
 
       sum : (t l r : Tree) → Sides t l r → (Everywhere LiteralClear l → NoEffects s (foldReads l) → Folds s l (foldStringAdditionChain l))
           → Everywhere LiteralClear t → NoEffects s (foldReads t) → Folds s t (foldStringAdditionChain t)
       sum t l r S ih c h =
           let cs : All (Everywhere LiteralClear) (l ∷ r ∷ []) = rw (S .kids) at (kids-everywhere LiteralClear (t .kids) (c .1)) in
           let (h₀, h₁) = split (foldReads l) (sideReads (foldStringAdditionChain l) r) (rw (foldReads-sides t l r S) at h) in
-          rw (fold-sides t l r S) (fold-step s t l r (foldStringAdditionChain l) S (ih (cs .0) h₀) h₁)
+          rw (fold-sides t l r S) (fold-step s t l r (foldStringAdditionChain l) S (fold-string l) (ih (cs .0) h₀) h₁)
 
   -- A conditional, of each of whose arms one tree is left at most.
   either : {A : Type 0} (b : Bool) (x : A) → cond b x x ≡ x

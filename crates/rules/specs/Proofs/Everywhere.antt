@@ -1,6 +1,9 @@
 -- What holds at a node and at every node under it.
+use mathlib.Core.Bool.{Bool, true, _&&_}
 use mathlib.Core.List.{List, [], _∷_}
-use Rattle.tree.specs.Tree.{Forest, nil, node, Tree, trees, forest, All}
+use mathlib.Core.Path.{_≡_, refl}
+use Rattle.tree.specs.Tree.{Forest, nil, node, Tree, trees, forest, allNodes, All}
+use Rattle.tree.specs.Below.{and-both, and-left, and-right}
 
 module _ (P : Tree → Type 0) where
   abbrev pub EverywhereIn : Forest → Type 0
@@ -30,3 +33,21 @@ module _ (P Q : Tree → Type 0) where
   pub in-everywhere-both : (cs : Forest) → EverywhereIn P cs → EverywhereIn Q cs → EverywhereIn (λ t. P t × Q t) cs
   in-everywhere-both nil v w = tt
   in-everywhere-both (node h cs rest) v w = ((v .0, w .0), in-everywhere-both cs (v .1) (w .1), in-everywhere-both rest (v .2) (w .2))
+
+-- A test that each node passes.
+module _ (p : Tree → Bool) where
+  pub in-everywhere-passed : (f : Forest) → allNodes p f ≡ true → EverywhereIn (λ t. p t ≡ true) f
+  unfolding allNodes
+  in-everywhere-passed nil e = tt
+  in-everywhere-passed (node h cs rest) e =
+      let t : Tree = record { head = h; kids = cs } in
+      let under = and-right (p t) (allNodes p cs && allNodes p rest) e in (
+        and-left (p t) (allNodes p cs && allNodes p rest) e,
+        in-everywhere-passed cs (and-left (allNodes p cs) (allNodes p rest) under),
+        in-everywhere-passed rest (and-right (allNodes p cs) (allNodes p rest) under),
+      )
+
+  pub in-everywhere-all : (f : Forest) → EverywhereIn (λ t. p t ≡ true) f → allNodes p f ≡ true
+  unfolding allNodes
+  in-everywhere-all nil w = refl
+  in-everywhere-all (node h cs rest) w = and-both (w .0) (and-both (in-everywhere-all cs (w .1)) (in-everywhere-all rest (w .2)))

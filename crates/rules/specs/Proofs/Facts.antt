@@ -2,18 +2,20 @@
 -- proved anew; the other proofs rest on these laws, and on the predicates' names.
 use mathlib.Core.Bool.{Bool, true, false, not, _&&_, _||_, true≢false}
 use mathlib.Core.List.{List, _∷_}
-use mathlib.Core.Path.{_≡_, refl, ap₂}
+use mathlib.Core.Path.{_≡_, refl, ap, ap₂}
 use Prim.Native.Nat.{ℕ}
 use lib.Dec.{eqb}
 use borrow.Author.Tests.{eqb-true, not-true}
 use Rattle.tree.specs.Below.{and-left, and-right}
 use Rattle.tree.specs.Tree.{Place, Head, Tree, trees, trees-forest, recur, each, All}
 use Rattle.tree.specs.Heads.{asKind}
+use Rattle.tree.specs.Record.{symbolPair, symbolYes, neverSymbolAlone}
+use Rattle.tree.specs.Symbol.{isAddition, stringFact, isStringRule, isString, isStringAddition, neverSymbol, additionAgrees}
 use Rattle.tree.specs.Kind as kind
 use Rattle.rules.specs.Lists.{any, every}
 use Rattle.rules.specs.Settings.{Settings, treeShakeOnly}
-use Rattle.rules.specs.Handler.{Handler, handler, isKind, isLiteral, isSpread, isSequence, isAddition, isFunction, firstIs}
-use Rattle.rules.specs.Facts.{flagged, clear, stringFact, isStringRule, isString, possibleSymbol, hasSideEffectsOrPreservedIife, unchangedTemplate, onlySpreads, flaggedChild, testIsYes}
+use Rattle.rules.specs.Handler.{Handler, handler, isKind, isLiteral, isSpread, isSequence, isFunction, firstIs}
+use Rattle.rules.specs.Facts.{flagged, clear, possibleSymbol, hasSideEffectsOrPreservedIife, unchangedTemplate, onlySpreads, flaggedChild, testIsYes}
 use Rattle.rules.specs.Made.{makeArray, makeObject, makeTemplate, emptyLiteral, withChildren}
 use Rattle.rules.specs.Addition.{isDroppedRight}
 use Rattle.rules.specs.Class.{elements, staticValue, decoratedClass, decoratedElement, indexSignature, nonemptyStaticBlock, flaggedStaticValue, arrowHeritage, keptClass}
@@ -74,7 +76,7 @@ unfolding handler emptyLiteral
 empty-handled p = refl
 
 pub empty-string : (p : Place) → isString (emptyLiteral p) ≡ true
-unfolding isString isStringRule recur each emptyLiteral isAddition isKind stringFact
+unfolding isString isStringRule recur each emptyLiteral isAddition stringFact
 empty-string p = refl
 
 -- What is read of the head alone.
@@ -86,10 +88,28 @@ pub same-literal : (t : Tree) (ts : List Tree) → isLiteral (withChildren t ts)
 unfolding isKind withChildren
 same-literal t ts = refl
 
--- A side that is left as it was, but for the fold under it.
+-- A node with the same record, that is a string exactly if the other is: a side that is left as it was, but for the fold under it.
+same-never : (f t : Tree) → f .head ≡ t .head → isString f ≡ isString t → neverSymbol f ≡ neverSymbol t
+unfolding neverSymbol isStringAddition isAddition
+same-never f t e w = ap₂ (λ (h : Head) (string : Bool). neverSymbolAlone h || ((eqb (h .kind) kind.binary && eqb (h .sub) 2) && string)) e w
+
 pub same-symbol : (f t : Tree) → f .head ≡ t .head → isString f ≡ isString t → possibleSymbol f ≡ possibleSymbol t
 unfolding possibleSymbol
-same-symbol f t e _ = rw e
+same-symbol f t e w = ap₂ (λ (never : Bool) (h : Head). not (never || eqb (symbolPair (h .facts)) 1)) (same-never f t e w) e
+
+-- A node over other children, an addition of which is a string exactly if it was one.
+pub same-agrees : (t : Tree) (ts : List Tree) → (isAddition t ≡ true → isString (withChildren t ts) ≡ isString t) → additionAgrees (withChildren t ts) ≡ additionAgrees t
+unfolding additionAgrees isStringAddition isAddition withChildren
+same-agrees t ts h = ap (λ b. not (symbolYes (t .head) && b)) (go (isAddition t) refl)
+  where
+    go : (b : Bool) → isAddition t ≡ b → (b && isString (withChildren t ts)) ≡ (b && isString t)
+    go true e = h e
+    go false e = refl
+
+-- No symbol is recorded.
+pub unrecorded-agrees : (t : Tree) → not (symbolYes (t .head)) ≡ true → additionAgrees t ≡ true
+unfolding additionAgrees
+unrecorded-agrees t e = rw (not-true (symbolYes (t .head)) e)
 
 pub dropped-no-symbol : (r : Tree) → isDroppedRight r ≡ true → possibleSymbol r ≡ false
 unfolding isDroppedRight

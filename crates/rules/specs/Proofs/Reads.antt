@@ -6,10 +6,11 @@ use lib.ListN.{drop}
 use borrow.Author.Tests.{not-true}
 use Rattle.tree.specs.Below.{and-right}
 use Rattle.tree.specs.Tree.{Tree, trees, All, ind}
+use Rattle.tree.specs.Symbol.{stringFact, isString, Sides}
 use Rattle.rules.specs.Lists.{keepIf, concatMap, filter}
 use Rattle.rules.specs.Settings.{Settings}
 use Rattle.rules.specs.Handler.{Handler, handler, isSpread}
-use Rattle.rules.specs.Facts.{flagged, clear, possibleSymbol, stringFact, isString, ofIdentifier, pureNew, pureCall, hasSideEffectsOrPreservedIife, unchangedTemplate, onlySpreads, flaggedChild}
+use Rattle.rules.specs.Facts.{flagged, clear, possibleSymbol, ofIdentifier, pureNew, pureCall, hasSideEffectsOrPreservedIife, unchangedTemplate, onlySpreads, flaggedChild}
 use Rattle.rules.specs.Addition.{isDroppedRight, foldStringAdditionChain}
 use Rattle.rules.specs.Class.{heritage, elements, computedKey, staticValue, keptClass}
 use Rattle.rules.specs.Conditional.{armsOf}
@@ -19,7 +20,7 @@ use Rattle.rules.specs.ReadsBy.{readInAllBut, readsBy}
 use Rattle.rules.specs.Proofs.Lists.{by-cond, all-join, all-drop, all-keep, concatMap-all, always, drop-map}
 use Rattle.rules.specs.Proofs.Unfold.{readIn, reads-is, readInAll-is}
 use Rattle.rules.specs.Proofs.Facts.{dropped-clear, gone-call-clear, flagged-child}
-use Rattle.rules.specs.Proofs.Addition.{Sides, NoSides, by-chain, foldReads-sides}
+use Rattle.rules.specs.Proofs.Addition.{NoSides, by-chain, foldReads-sides}
 
 abbrev Clear : Tree → Type 0
 Clear t = flagged t ≡ false

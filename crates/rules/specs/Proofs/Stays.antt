@@ -1,20 +1,21 @@
 -- What is kept of an accepted tree is accepted, handler by handler.
 use mathlib.Core.Bool.{Bool, true, false, cond, not, _&&_, _||_, true≢false}
 use mathlib.Core.List.{List, [], _∷_, _++_, map, append-nil}
-use mathlib.Core.Path.{_≡_, refl, sym, _∙_, subst}
+use mathlib.Core.Path.{_≡_, refl, sym, _∙_, ap, subst}
 use Prim.Native.Nat.{ℕ, _+_, _≤_}
 use native.Mathlib.Omega.{arith}
 use lib.Dec.{eqb, leb, ltb}
 use lib.ListN.{length, take, drop}
-use Rattle.tree.specs.Tree.{Place, Head, Tree, trees, forest, trees-forest, count, All, ind}
+use Rattle.tree.specs.Tree.{Place, Head, Forest, nil, node, Tree, trees, forest, trees-forest, count, All, ind}
 use Rattle.tree.specs.Kind as kind
 use Rattle.tree.specs.Below.{allBelow, and-left, and-right}
+use Rattle.tree.specs.Symbol.{isAddition, stringFact, isString, Sides}
 use Rattle.tree.specs.Record as rec
 use Rattle.tree.specs.Children as children
 use Rattle.rules.specs.Lists.{any, every, keepIf, filter, concatMap}
 use Rattle.rules.specs.Settings.{Settings, derived}
 use Rattle.rules.specs.Handler.{Handler, handler, isKind, isLiteral, isSpread, isSequence}
-use Rattle.rules.specs.Facts.{flagged, stringFact, isString, possibleSymbol, pureNew, pureCall, hasSideEffectsOrPreservedIife, ofIdentifier, unchangedTemplate, onlySpreads, flaggedChild}
+use Rattle.rules.specs.Facts.{flagged, possibleSymbol, pureNew, pureCall, hasSideEffectsOrPreservedIife, ofIdentifier, unchangedTemplate, onlySpreads, flaggedChild}
 use Rattle.rules.specs.Made.{placeOf, madeHead, flagOf, makeSequence, makeTemplate, makeObject, makeArray, andSub, orSub, makeLogical, emptyLiteral, withChildren, joined, joinSequence}
 use Rattle.rules.specs.Addition.{emptiedUnlessFlagged, isDroppedRight, foldSides, foldStringAdditionChain}
 use Rattle.rules.specs.Class as class
@@ -24,7 +25,7 @@ use Rattle.rules.specs.Proofs.Lists.{by-cond, or-true-l, or-true-r, or-r
 use Rattle.rules.specs.Proofs.Unfold.{reduced, reduce-is, kept-is}
 use Rattle.rules.specs.Proofs.Everywhere.{Everywhere, kids-everywhere, forest-everywhere, everywhere-map}
 use Rattle.rules.specs.Proofs.Facts.{handled, spread-handled, sequence-handled, addition-handled, array-handled}
-use Rattle.rules.specs.Proofs.Addition.{Sides, NoSides, by-chain, fold-sides}
+use Rattle.rules.specs.Proofs.Addition.{NoSides, by-chain, fold-sides, string-left, string-right, fold-string}
 use Rattle.rules.specs.Proofs.Shape.{isExpr, isArrayPart, isArgument, isObjectPart, isElement, exactly, afterFirst, afterHeritage, kidsBy, three, exprBy, expr-by, NodeGood, HeadGood, good-head, good-kids, good-node}
 use Rattle.rules.specs.Proofs.Single.{at-most-one}
 
@@ -33,8 +34,12 @@ by-flag-of : (ts : List Tree) (P : ℕ → Type 0) → P 1 → P 0 → P (flagOf
 unfolding flagOf
 by-flag-of ts P p q = by-cond P (any flagged ts) 1 0 (λ _. p) (λ _. q)
 
-flag-small : (ts : List Tree) → ltb (flagOf ts) 256 ≡ true
-flag-small ts = by-flag-of ts (λ f. ltb f 256 ≡ true) refl refl
+-- The facts of a made node fit a byte and record no symbol.
+abbrev pub isMadeFacts : ℕ → Bool
+isMadeFacts f = ltb f 256 && not (eqb (rec.symbolPair f) 2)
+
+flag-made : (ts : List Tree) → isMadeFacts (flagOf ts) ≡ true
+flag-made ts = by-flag-of ts (λ f. isMadeFacts f ≡ true) refl refl
 
 record MadeHeads (p : Place) : Type 0 where
   literal : HeadGood (madeHead kind.literal 0 18 p)
@@ -51,7 +56,7 @@ record MadeHeads (p : Place) : Type 0 where
   clear-or : HeadGood (madeHead kind.logical orSub 0 p)
 
 made-heads : (p : Place) → MadeHeads p
-unfolding rec.recordOk rec.included rec.factsOk rec.bitsWithin allBelow rec.allowedFacts rec.pairsOk rec.literalOk rec.subOk
+unfolding rec.recordOk rec.included rec.factsOk rec.bitsWithin allBelow rec.allowedFacts rec.pairsOk rec.literalOk rec.symbolOk rec.symbolYes rec.subOk
 made-heads p = record {
   literal = record { recorded = refl; isIncluded = refl };
   template = record { recorded = refl; isIncluded = refl };
@@ -79,24 +84,40 @@ expr-stays : (t : Tree) (ts : List Tree) → isExpr t ≡ true → isExpr (withC
 unfolding withChildren
 expr-stays t ts x = x
 
--- A node that is accepted, and of whose head H holds; an expression of such nodes.
-abbrev pub Node : (Head → Type 0) → Tree → Type 0
-Node H t = NodeGood t × H (t .head)
+-- A node that is accepted, and of which H holds; an expression of such nodes.
+abbrev pub Node : (Tree → Type 0) → Tree → Type 0
+Node H t = NodeGood t × H t
 
-abbrev pub Expr : (Head → Type 0) → Tree → Type 0
+abbrev pub Expr : (Tree → Type 0) → Tree → Type 0
 Expr H t = Everywhere (Node H) t × (isExpr t ≡ true)
 
--- H: what else is to hold of each head. A node may be made at the place of a head of which H holds.
-module _ (H : Head → Type 0) (at-place : (h : Head) → H h → (k sub facts : ℕ) → ltb k 256 ≡ true → ltb sub 256 ≡ true → ltb facts 256 ≡ true → H (madeHead k sub facts (h .place))) where
+-- A node over other children: an addition is a string exactly if it was one.
+abbrev pub SameString : Tree → List Tree → Type 0
+SameString t ts = isAddition t ≡ true → isString (withChildren t ts) ≡ isString t
+
+-- A node of another handler is no addition: of some children f the two handlers do not say the same.
+abbrev two : Forest
+two = let x = madeHead kind.literal 0 18 (record { start = 0 }) in node x nil (node x nil nil)
+
+no-addition : (t : Tree) (k : Handler) (f : Forest) (ts : List Tree) → handler (t .head) ≡ k → kidsBy k (t .head) f ≡ not (kidsBy Handler.addition (t .head) f) → SameString t ts
+no-addition t k f ts e n a = absurd (no-fix (kidsBy Handler.addition (t .head) f) (ap (λ k. kidsBy k (t .head) f) (sym (addition-handled t a) ∙ e) ∙ n))
+  where
+    no-fix : (b : Bool) → b ≡ not b → ⊥
+    no-fix true e = true≢false e
+    no-fix false e = true≢false (sym e)
+
+-- A node may be made at place p, over any children.
+abbrev pub MadeAt : (Tree → Type 0) → Place → Type 0
+MadeAt H p = (k sub facts : ℕ) → ltb k 256 ≡ true → ltb sub 256 ≡ true → isMadeFacts facts ≡ true → (ts : List Tree) → H (record { head = madeHead k sub facts p; kids = forest ts })
+
+-- H: what else is to hold of each node. A node may be made at the place of a node of which H holds, and such a node may stay over other
+-- children.
+module _ (H : Tree → Type 0) (at-place : (t : Tree) → H t → MadeAt H (placeOf t)) (over-others : (t : Tree) → H t → (ts : List Tree) → SameString t ts → H (withChildren t ts)) where
   abbrev Good : Tree → Type 0
   Good t = Everywhere (Node H) t
 
-  -- A place at which a node may be made.
-  abbrev PlaceGood : Place → Type 0
-  PlaceGood p = (k sub facts : ℕ) → ltb k 256 ≡ true → ltb sub 256 ≡ true → ltb facts 256 ≡ true → H (madeHead k sub facts p)
-
-  place-good : (t : Tree) → Good t → PlaceGood (placeOf t)
-  place-good t g = at-place (t .head) (g .0 .1)
+  place-good : (t : Tree) → Good t → MadeAt H (placeOf t)
+  place-good t g = at-place t (g .0 .1)
 
   abbrev Fit : (Tree → Bool) → Tree → Type 0
   Fit p t = Good t × (p t ≡ true)
@@ -111,80 +132,80 @@ module _ (H : Head → Type 0) (at-place : (h : Head) → H h → (k sub facts :
   kids-good t g = kids-everywhere (Node H) (t .kids) (g .1)
 
   -- The node of a head that is accepted, over children that are.
-  over : (p : Tree → Bool) (h : Head) (k : Handler) (ts : List Tree) → HeadGood h → H h → handler h ≡ k → All (Fit p) ts
+  over : (p : Tree → Bool) (h : Head) (k : Handler) (ts : List Tree) → HeadGood h → H (record { head = h; kids = forest ts }) → handler h ≡ k → All (Fit p) ts
       → kidsBy k h (forest ts) ≡ true → Good (record { head = h; kids = forest ts })
   over p h k ts o w e fs ok = ((good-node h k (forest ts) o e ok, w), forest-everywhere (Node H) ts (all-map (λ t f. f .0) ts fs))
 
-  good-sequence : (p : Place) (ts : List Tree) → PlaceGood p → All (Expr H) ts → Expr H (makeSequence p ts)
+  good-sequence : (p : Place) (ts : List Tree) → MadeAt H p → All (Expr H) ts → Expr H (makeSequence p ts)
   unfolding makeSequence handler
   good-sequence p ts m gs =
       let o = by-flag-of ts (λ f. HeadGood (madeHead kind.sequence 0 f p)) (made-heads p .flagged-sequence) (made-heads p .clear-sequence) in
-      (over isExpr (madeHead kind.sequence 0 (flagOf ts) p) Handler.sequence ts o (m kind.sequence 0 (flagOf ts) refl refl (flag-small ts)) refl gs (rw (trees-forest ts) (fit-every isExpr ts gs)), refl)
+      (over isExpr (madeHead kind.sequence 0 (flagOf ts) p) Handler.sequence ts o (m kind.sequence 0 (flagOf ts) refl refl (flag-made ts) ts) refl gs (rw (trees-forest ts) (fit-every isExpr ts gs)), refl)
 
-  good-template : (p : Place) (ts : List Tree) → PlaceGood p → All (Expr H) ts → Expr H (makeTemplate p ts)
+  good-template : (p : Place) (ts : List Tree) → MadeAt H p → All (Expr H) ts → Expr H (makeTemplate p ts)
   unfolding makeTemplate handler
   good-template p ts m gs =
-      (over isExpr (madeHead kind.template 0 1 p) Handler.template ts (made-heads p .template) (m kind.template 0 1 refl refl refl) refl gs (rw (trees-forest ts) (fit-every isExpr ts gs)), refl)
+      (over isExpr (madeHead kind.template 0 1 p) Handler.template ts (made-heads p .template) (m kind.template 0 1 refl refl refl ts) refl gs (rw (trees-forest ts) (fit-every isExpr ts gs)), refl)
 
-  good-object : (p : Place) (ts : List Tree) → PlaceGood p → All (Fit isSpread) ts → Expr H (makeObject p ts)
+  good-object : (p : Place) (ts : List Tree) → MadeAt H p → All (Fit isSpread) ts → Expr H (makeObject p ts)
   unfolding makeObject handler isKind
   good-object p ts m gs =
       let o = by-flag-of ts (λ f. HeadGood (madeHead kind.object 0 f p)) (made-heads p .flagged-object) (made-heads p .clear-object) in (
-        over isSpread (madeHead kind.object 0 (flagOf ts) p) Handler.object ts o (m kind.object 0 (flagOf ts) refl refl (flag-small ts)) refl gs
+        over isSpread (madeHead kind.object 0 (flagOf ts) p) Handler.object ts o (m kind.object 0 (flagOf ts) refl refl (flag-made ts) ts) refl gs
             (rw (trees-forest ts) (all-every isObjectPart ts (all-map (λ t f. or-true-l (isSpread t) (eqb (t .head .kind) kind.property) (f .1)) ts gs))),
         refl,
       )
 
-  good-array : (p : Place) (t : Tree) → PlaceGood p → Fit isSpread t → Expr H (makeArray p (t ∷ []))
+  good-array : (p : Place) (t : Tree) → MadeAt H p → Fit isSpread t → Expr H (makeArray p (t ∷ []))
   unfolding makeArray handler isKind
   good-array p t m g =
       let o = by-flag-of (t ∷ []) (λ f. HeadGood (madeHead kind.array 0 f p)) (made-heads p .flagged-array) (made-heads p .clear-array) in (
-        over isSpread (madeHead kind.array 0 (flagOf (t ∷ [])) p) Handler.array (t ∷ []) o (m kind.array 0 (flagOf (t ∷ [])) refl refl (flag-small (t ∷ []))) refl (g, tt)
+        over isSpread (madeHead kind.array 0 (flagOf (t ∷ [])) p) Handler.array (t ∷ []) o (m kind.array 0 (flagOf (t ∷ [])) refl refl (flag-made (t ∷ [])) (t ∷ [])) refl (g, tt)
             (rw (or-true-r (isExpr t) (isSpread t || eqb (t .head .kind) kind.elision) (or-true-l (isSpread t) (eqb (t .head .kind) kind.elision) (g .1)))),
         refl,
       )
 
-  good-literal : (p : Place) → PlaceGood p → Expr H (emptyLiteral p)
+  good-literal : (p : Place) → MadeAt H p → Expr H (emptyLiteral p)
   unfolding emptyLiteral handler
-  good-literal p m = (over isExpr (madeHead kind.literal 0 18 p) Handler.leaf [] (made-heads p .literal) (m kind.literal 0 18 refl refl refl) refl tt refl, refl)
+  good-literal p m = (over isExpr (madeHead kind.literal 0 18 p) Handler.leaf [] (made-heads p .literal) (m kind.literal 0 18 refl refl refl []) refl tt refl, refl)
 
-  good-and : (p : Place) (q x : Tree) → PlaceGood p → Expr H q → Expr H x → Expr H (makeLogical andSub p (q ∷ x ∷ []))
+  good-and : (p : Place) (q x : Tree) → MadeAt H p → Expr H q → Expr H x → Expr H (makeLogical andSub p (q ∷ x ∷ []))
   unfolding makeLogical handler
   good-and p q x m f g =
       let ts = q ∷ x ∷ [] in
       let o = by-flag-of ts (λ f. HeadGood (madeHead kind.logical andSub f p)) (made-heads p .flagged-and) (made-heads p .clear-and) in
-      (over isExpr (madeHead kind.logical andSub (flagOf ts) p) Handler.logicalAnd ts o (m kind.logical andSub (flagOf ts) refl refl (flag-small ts)) refl (f, (g, tt)) (rw (f .1, g .1)), refl)
+      (over isExpr (madeHead kind.logical andSub (flagOf ts) p) Handler.logicalAnd ts o (m kind.logical andSub (flagOf ts) refl refl (flag-made ts) ts) refl (f, (g, tt)) (rw (f .1, g .1)), refl)
 
-  good-or : (p : Place) (q x : Tree) → PlaceGood p → Expr H q → Expr H x → Expr H (makeLogical orSub p (q ∷ x ∷ []))
+  good-or : (p : Place) (q x : Tree) → MadeAt H p → Expr H q → Expr H x → Expr H (makeLogical orSub p (q ∷ x ∷ []))
   unfolding makeLogical handler
   good-or p q x m f g =
       let ts = q ∷ x ∷ [] in
       let o = by-flag-of ts (λ f. HeadGood (madeHead kind.logical orSub f p)) (made-heads p .flagged-or) (made-heads p .clear-or) in
-      (over isExpr (madeHead kind.logical orSub (flagOf ts) p) Handler.logicalOr ts o (m kind.logical orSub (flagOf ts) refl refl (flag-small ts)) refl (f, (g, tt)) (rw (f .1, g .1)), refl)
+      (over isExpr (madeHead kind.logical orSub (flagOf ts) p) Handler.logicalOr ts o (m kind.logical orSub (flagOf ts) refl refl (flag-made ts) ts) refl (f, (g, tt)) (rw (f .1, g .1)), refl)
 
   -- A node that stays over other children.
-  good-stays : (p : Tree → Bool) (t : Tree) (k : Handler) (ts : List Tree) → Good t → handler (t .head) ≡ k → All (Fit p) ts
+  good-stays : (p : Tree → Bool) (t : Tree) (k : Handler) (ts : List Tree) → Good t → handler (t .head) ≡ k → SameString t ts → All (Fit p) ts
       → kidsBy k (t .head) (forest ts) ≡ true → Good (withChildren t ts)
   unfolding withChildren
-  good-stays p t k ts g e fs ok = over p (t .head) k ts (good-head t (g .0 .0)) (g .0 .1) e fs ok
+  good-stays p t k ts g e w fs ok = over p (t .head) k ts (good-head t (g .0 .0)) (over-others t (g .0 .1) ts w) e fs ok
 
   -- Additions.
   emptied-fit : (t : Tree) → Expr H t → Expr H (emptiedUnlessFlagged t)
   unfolding emptiedUnlessFlagged
   emptied-fit t g = by-cond (Expr H) (flagged t) t (emptyLiteral (placeOf t)) (λ _. g) (λ _. good-literal (placeOf t) (place-good t (g .0)))
 
-  sides-stay : (t x y : Tree) → handler (t .head) ≡ Handler.addition → Expr H t → Expr H x → Expr H y → Expr H (withChildren t (x ∷ y ∷ []))
-  sides-stay t x y e g f h =
-      (good-stays isExpr t Handler.addition (x ∷ y ∷ []) (g .0) e (f, (h, tt)) (rw (f .1, h .1)), expr-stays t (x ∷ y ∷ []) (g .1))
+  sides-stay : (t x y : Tree) → handler (t .head) ≡ Handler.addition → SameString t (x ∷ y ∷ []) → Expr H t → Expr H x → Expr H y → Expr H (withChildren t (x ∷ y ∷ []))
+  sides-stay t x y e w g f h =
+      (good-stays isExpr t Handler.addition (x ∷ y ∷ []) (g .0) e w (f, (h, tt)) (rw (f .1, h .1)), expr-stays t (x ∷ y ∷ []) (g .1))
 
-  sides-fit : (t f r : Tree) → handler (t .head) ≡ Handler.addition → Expr H t → Expr H f → Expr H r → Expr H (foldSides t f r)
+  sides-fit : (t l f r : Tree) → handler (t .head) ≡ Handler.addition → Sides t l r → isString f ≡ isString l → Expr H t → Expr H f → Expr H r → Expr H (foldSides t f r)
   unfolding foldSides
-  sides-fit t f r e g x y =
+  sides-fit t l f r e S w g x y =
       by-cond (Expr H) (isString f)
       (cond (isDroppedRight r) (emptiedUnlessFlagged f) (withChildren t (emptiedUnlessFlagged f ∷ r ∷ []))) (withChildren t (f ∷ cond (stringFact r) (emptiedUnlessFlagged r) r ∷ []))
-      (λ _. by-cond (Expr H) (isDroppedRight r) (emptiedUnlessFlagged f) (withChildren t (emptiedUnlessFlagged f ∷ r ∷ []))
-      (λ _. emptied-fit f x) (λ _. sides-stay t (emptiedUnlessFlagged f) r e g (emptied-fit f x) y))
-      (λ _. sides-stay t f (cond (stringFact r) (emptiedUnlessFlagged r) r) e g x (by-cond (Expr H) (stringFact r) (emptiedUnlessFlagged r) r (λ _. emptied-fit r y) (λ _. y)))
+      (λ z. by-cond (Expr H) (isDroppedRight r) (emptiedUnlessFlagged f) (withChildren t (emptiedUnlessFlagged f ∷ r ∷ []))
+      (λ _. emptied-fit f x) (λ _. sides-stay t (emptiedUnlessFlagged f) r e (λ _. string-left t l r f S w z) g (emptied-fit f x) y))
+      (λ _. sides-stay t f (cond (stringFact r) (emptiedUnlessFlagged r) r) e (λ _. string-right t l r f S w) g x (by-cond (Expr H) (stringFact r) (emptiedUnlessFlagged r) r (λ _. emptied-fit r y) (λ _. y)))
 
   exactly-fit : (n : ℕ) (t : Tree) → Good t → exactly n (t .kids) ≡ true → All (Expr H) (trees (t .kids))
   exactly-fit n t g ok = fit-all isExpr (trees (t .kids)) (kids-good t g) (and-right (eqb (count (t .kids)) n) (every isExpr (trees (t .kids))) ok)
@@ -199,7 +220,7 @@ module _ (H : Head → Type 0) (at-place : (h : Head) → H h → (k sub facts :
       sum t l r S ih g =
           let e = addition-handled t (S .addition) in
           let ks : All (Expr H) (l ∷ r ∷ []) = rw (S .kids) at (exactly-fit 2 t (g .0) (good-kids t Handler.addition e (g .0 .0 .0))) in
-          rw (fold-sides t l r S) (sides-fit t (foldStringAdditionChain l) r e g (ih (ks .0)) (ks .1 .0))
+          rw (fold-sides t l r S) (sides-fit t l (foldStringAdditionChain l) r e S (fold-string l) g (ih (ks .0)) (ks .1 .0))
 
   -- Classes.
   filter-fit : (ts : List Tree) → All (Expr H) ts → All (Expr H) (filter flagged ts)
@@ -227,12 +248,12 @@ module _ (H : Head → Type 0) (at-place : (h : Head) → H h → (k sub facts :
       (fit-all isElement (class.elements t) (all-drop Good n (trees (t .kids)) (kids-good t g)) (and-right (every isExpr (class.heritage t)) (every isElement (class.elements t)) parts))))
 
   -- Lists of what is left.
-  none-one-several : (p : Place) (ts : List Tree) → PlaceGood p → All (Expr H) ts → All (Expr H) (noneOneSeveral p ts)
+  none-one-several : (p : Place) (ts : List Tree) → MadeAt H p → All (Expr H) ts → All (Expr H) (noneOneSeveral p ts)
   none-one-several p [] m gs = tt
   none-one-several p (x ∷ []) m gs = gs
   none-one-several p (x ∷ y ∷ ys) m gs = (good-sequence p (x ∷ y ∷ ys) m gs, tt)
 
-  sequence-if-any : (p : Place) (ts : List Tree) → PlaceGood p → All (Expr H) ts → All (Expr H) (sequenceIfAny p ts)
+  sequence-if-any : (p : Place) (ts : List Tree) → MadeAt H p → All (Expr H) ts → All (Expr H) (sequenceIfAny p ts)
   sequence-if-any p [] m gs = tt
   sequence-if-any p (x ∷ xs) m gs = (good-sequence p (x ∷ xs) m gs, tt)
 
@@ -245,17 +266,17 @@ module _ (H : Head → Type 0) (at-place : (h : Head) → H h → (k sub facts :
       (λ e. all-join (Expr H) (trees (a .kids)) (b ∷ []) (sequence-parts a e (f .0)) (g, tt))
       (λ _. by-cond (All (Expr H)) (isSequence b) (a ∷ trees (b .kids)) (a ∷ b ∷ []) (λ e. (f, sequence-parts b e (g .0))) (λ _. (f, (g, tt))))
 
-  join-kept : (p : Place) (ts : List Tree) → PlaceGood p → All (Expr H) ts → All (Expr H) (joinKept p ts)
+  join-kept : (p : Place) (ts : List Tree) → MadeAt H p → All (Expr H) ts → All (Expr H) (joinKept p ts)
   unfolding joinSequence
   join-kept p [] m gs = tt
   join-kept p (x ∷ []) m gs = gs
   join-kept p (x ∷ y ∷ []) m gs = (good-sequence p (joined x y) m (joined-fit x y (gs .0) (gs .1 .0)), tt)
   join-kept p (x ∷ y ∷ z ∷ zs) m gs = (good-sequence p (x ∷ y ∷ z ∷ zs) m gs, tt)
 
-  stays-with : (p : Tree → Bool) (t : Tree) (k : Handler) (ts : List Tree) → Good t → isExpr t ≡ true → handler (t .head) ≡ k → All (Fit p) ts
+  stays-with : (p : Tree → Bool) (t : Tree) (k : Handler) (ts : List Tree) → Good t → isExpr t ≡ true → handler (t .head) ≡ k → SameString t ts → All (Fit p) ts
       → kidsBy k (t .head) (forest ts) ≡ true → All (Expr H) (staysWith t ts)
-  stays-with p t k [] g x e fs ok = tt
-  stays-with p t k (y ∷ ys) g x e fs ok = ((good-stays p t k (y ∷ ys) g e fs ok, expr-stays t (y ∷ ys) x), tt)
+  stays-with p t k [] g x e w fs ok = tt
+  stays-with p t k (y ∷ ys) g x e w fs ok = ((good-stays p t k (y ∷ ys) g e w fs ok, expr-stays t (y ∷ ys) x), tt)
 
   -- Arrays: of expressions and spreads, and where no spread is left of expressions alone.
   no-spread : (ts : List Tree) → any isSpread ts ≡ false → All (Fit isArgument) ts → All (Expr H) ts
@@ -265,7 +286,7 @@ module _ (H : Head → Type 0) (at-place : (h : Head) → H h → (k sub facts :
   array-fit : (t : Tree) (cs : List Reduced) → handler (t .head) ≡ Handler.array → Expr H t → All (Fit isArgument) (kept cs) → All (Expr H) (removeUnusedArrayExpr t cs)
   array-fit t cs e g fs =
       by-cond (All (Expr H)) (any isSpread (kept cs)) (staysWith t (kept cs)) (noneOneSeveral (placeOf t) (kept cs))
-      (λ _. stays-with isArgument t Handler.array (kept cs) (g .0) (g .1) e fs
+      (λ _. stays-with isArgument t Handler.array (kept cs) (g .0) (g .1) e (no-addition t Handler.array nil (kept cs) e refl) fs
       (rw (trees-forest (kept cs)) (all-every isArrayPart (kept cs) (all-map (λ c f. argument-part c (f .1)) (kept cs) fs))))
       (λ n. none-one-several (placeOf t) (kept cs) (place-good t (g .0)) (no-spread (kept cs) n fs))
 
@@ -276,17 +297,17 @@ module _ (H : Head → Type 0) (at-place : (h : Head) → H h → (k sub facts :
   arms-fit t q c a are e g f qs [] (y ∷ []) hq hc ha lc la = rw are (good-or (placeOf t) q y (place-good t (g .0)) f (ha .0), tt)
   arms-fit t q c a are e g f qs (x ∷ []) [] hq hc ha lc la = rw are (good-and (placeOf t) q x (place-good t (g .0)) f (hc .0), tt)
   arms-fit t q c a are e g f qs (x ∷ []) (y ∷ []) hq hc ha lc la =
-      rw are ((good-stays isExpr t Handler.conditional (q ∷ x ∷ y ∷ []) (g .0) e (f, (hc .0, (ha .0, tt))) (rw (f .1, hc .0 .1, ha .0 .1)), expr-stays t (q ∷ x ∷ y ∷ []) (g .1)), tt)
+      rw are ((good-stays isExpr t Handler.conditional (q ∷ x ∷ y ∷ []) (g .0) e (no-addition t Handler.conditional two (q ∷ x ∷ y ∷ []) e refl) (f, (hc .0, (ha .0, tt))) (rw (f .1, hc .0 .1, ha .0 .1)), expr-stays t (q ∷ x ∷ y ∷ []) (g .1)), tt)
   arms-fit t q c a are e g f qs [] (y ∷ z ∷ zs) hq hc ha lc la = absurd (omega (arith, la))
   arms-fit t q c a are e g f qs (x ∷ []) (y ∷ z ∷ zs) hq hc ha lc la = absurd (omega (arith, la))
   arms-fit t q c a are e g f qs (x ∷ z ∷ zs) bs hq hc ha lc la = absurd (omega (arith, lc))
 
   -- What waits.
-  flush-template : (p : Place) (w : List Tree) → PlaceGood p → All (Expr H) w → All (Expr H) (flush makeTemplate p w)
+  flush-template : (p : Place) (w : List Tree) → MadeAt H p → All (Expr H) w → All (Expr H) (flush makeTemplate p w)
   flush-template p [] m gs = tt
   flush-template p (x ∷ xs) m gs = (good-template p (x ∷ xs) m gs, tt)
 
-  flush-object : (p : Place) (w : List Tree) → PlaceGood p → All (Fit isSpread) w → All (Expr H) (flush makeObject p w)
+  flush-object : (p : Place) (w : List Tree) → MadeAt H p → All (Fit isSpread) w → All (Expr H) (flush makeObject p w)
   flush-object p [] m gs = tt
   flush-object p (x ∷ xs) m gs = (good-object p (x ∷ xs) m gs, tt)
 
@@ -336,14 +357,14 @@ module _ (H : Head → Type 0) (at-place : (h : Head) → H h → (k sub facts :
         go false ea true eb e = spread-argument t (f .0, eb)
         go false ea false eb e = rw (elision-is t e) tt
 
-    template-fit : (p : Place) (w ts : List Tree) → PlaceGood p → All (Expr H) w → All (Expr H) ts → All (λ c. All (Expr H) (reduce s c)) ts → All (Expr H) (transformTemplate p w (map (reduced s) ts))
+    template-fit : (p : Place) (w ts : List Tree) → MadeAt H p → All (Expr H) w → All (Expr H) ts → All (λ c. All (Expr H) (reduce s c)) ts → All (Expr H) (transformTemplate p w (map (reduced s) ts))
     template-fit p w [] m gs es hs = flush-template p w m gs
     template-fit p w (t ∷ ts) m gs es hs =
         by-cond (All (Expr H)) (possibleSymbol t) (transformTemplate p (w ++ (t ∷ [])) (map (reduced s) ts)) (flushTemplateBefore w (reduce s t) (λ w. transformTemplate p w (map (reduced s) ts)))
         (λ _. template-fit p (w ++ (t ∷ [])) ts m (all-join (Expr H) w (t ∷ []) gs (es .0, tt)) (es .1) (hs .1))
         (λ _. flush-before w (reduce s t) (λ w. transformTemplate p w (map (reduced s) ts)) gs (hs .0) (λ w gs. template-fit p w ts m gs (es .1) (hs .1)))
 
-    object-fit : (p : Place) (w ts : List Tree) → PlaceGood p → All (Fit isSpread) w → All (Fit isObjectPart) ts → All LeavesExprs ts → All (Expr H) (transformObject p w (map (reduced s) ts))
+    object-fit : (p : Place) (w ts : List Tree) → MadeAt H p → All (Fit isSpread) w → All (Fit isObjectPart) ts → All LeavesExprs ts → All (Expr H) (transformObject p w (map (reduced s) ts))
     unfolding isKind
     object-fit p w [] m gs es hs = flush-object p w m gs
     object-fit p w (t ∷ ts) m gs es hs =
@@ -410,7 +431,7 @@ module _ (H : Head → Type 0) (at-place : (h : Head) → H h → (k sub facts :
       by-handler x Handler.otherUnary e p ok = keep x (flagged t)
       by-handler x Handler.sequence e p ok =
           let ks = kept-exprs ts ok hs in
-          stays-with isExpr t Handler.sequence (kept reductions) g x e ks (rw (trees-forest (kept reductions)) (fit-every isExpr (kept reductions) ks))
+          stays-with isExpr t Handler.sequence (kept reductions) g x e (no-addition t Handler.sequence nil (kept reductions) e refl) ks (rw (trees-forest (kept reductions)) (fit-every isExpr (kept reductions) ks))
       by-handler x Handler.array e p ok =
           array-fit t reductions e (g, x) (kept-fit isArgument ts (all-zip part-fit ts (fit-all isArrayPart ts (kids-good t g) ok) hs))
       by-handler x Handler.template e p ok =

@@ -1,5 +1,5 @@
 use mathlib.Core.Path.{sym, _∙_}
-use Rattle.file.specs.Facts.{facts-over, facts-literal, facts-other, facts-pairs}
+use Rattle.file.specs.Facts.{facts-over, facts-literal, facts-symbol, facts-other, facts-pairs}
 use borrow.Author.Needs.{needs}
 use Rattle.file.proofs.record.facts_ok.Statement.{statement}
 use Rattle.file.proofs.record.facts_ok.Tie as tie
@@ -25,11 +25,23 @@ pairs-ok-requires c κs = search needs
 returns-2 : tie.Need-returns-2
 returns-2 c = sym (facts-literal _ _ _ _ (c .before .before .before .before .before .before .kind-at .ensures .0) (c .before .before .before .before .before .facts-at .ensures .0) (c .before .before .before .before .before .facts-at .ensures .1) (c .before .before .before .before .allowed-facts .ensures) (c .before .before .before .if1 .left) (sym (c .before .before .pairs-ok .ensures) ∙ c .before .if2 .taken) (c .if3 .taken))
 
+never-kind-requires : tie.Need-never-kind-requires
+never-kind-requires c κs = search needs
+
+pick-requires : tie.Need-pick-requires
+pick-requires c κs = search needs
+
+never-symbol-alone-requires : tie.Need-never-symbol-alone-requires
+never-symbol-alone-requires c κs = search needs
+
 returns-3 : tie.Need-returns-3
-returns-3 c = sym (facts-other _ _ _ _ (c .before .before .before .before .before .before .kind-at .ensures .0) (c .before .before .before .before .before .facts-at .ensures .0) (c .before .before .before .before .before .facts-at .ensures .1) (c .before .before .before .before .allowed-facts .ensures) (c .before .before .before .if1 .left) (sym (c .before .before .pairs-ok .ensures) ∙ c .before .if2 .taken) (c .if3 .left))
+returns-3 c = sym (facts-symbol _ _ _ _ (c .before .before .before .before .before .before .before .before .before .before .kind-at .ensures .0) (c .before .before .before .before .before .before .before .before .before .facts-at .ensures .0) (c .before .before .before .before .before .before .before .before .before .facts-at .ensures .1) (c .before .before .before .before .before .before .before .before .allowed-facts .ensures) (c .before .before .before .before .before .before .before .if1 .left) (sym (c .before .before .before .before .before .before .pairs-ok .ensures) ∙ c .before .before .before .before .before .if2 .taken) (c .before .before .before .before .if3 .left) (rw (← c .before .before .before .never-kind .ensures) (sym (c .before .before .pick .ensures) ∙ c .before .if4 .taken)) _ (c .never-symbol-alone .ensures))
 
 returns-4 : tie.Need-returns-4
-returns-4 c = sym (facts-pairs _ _ _ _ (c .before .before .before .before .before .kind-at .ensures .0) (c .before .before .before .before .facts-at .ensures .0) (c .before .before .before .before .facts-at .ensures .1) (c .before .before .before .allowed-facts .ensures) (c .before .before .if1 .left) (sym (c .before .pairs-ok .ensures) ∙ c .if2 .left))
+returns-4 c = sym (facts-other _ _ _ _ (c .before .before .before .before .before .before .before .before .before .kind-at .ensures .0) (c .before .before .before .before .before .before .before .before .facts-at .ensures .0) (c .before .before .before .before .before .before .before .before .facts-at .ensures .1) (c .before .before .before .before .before .before .before .allowed-facts .ensures) (c .before .before .before .before .before .before .if1 .left) (sym (c .before .before .before .before .before .pairs-ok .ensures) ∙ c .before .before .before .before .if2 .taken) (c .before .before .before .if3 .left) (λ e. c .if4 .left (c .before .pick .ensures ∙ rw (c .before .before .never-kind .ensures) e)))
+
+returns-5 : tie.Need-returns-5
+returns-5 c = sym (facts-pairs _ _ _ _ (c .before .before .before .before .before .kind-at .ensures .0) (c .before .before .before .before .facts-at .ensures .0) (c .before .before .before .before .facts-at .ensures .1) (c .before .before .before .allowed-facts .ensures) (c .before .before .if1 .left) (sym (c .before .pairs-ok .ensures) ∙ c .if2 .left))
 
 pub facts-ok-spec : {M : Type 1} → statement M
 facts-ok-spec =
@@ -42,5 +54,9 @@ facts-ok-spec =
     returns
     pairs-ok-requires
     returns-2
+    never-kind-requires
+    pick-requires
+    never-symbol-alone-requires
     returns-3
-    returns-4)
+    returns-4
+    returns-5)

@@ -4,11 +4,10 @@ use native.Mathlib.Omega.{arith}
 use Rattle.tree.specs.Tree.{Tree, trees}
 use Rattle.tree.specs.Walk.{held-some, held-within}
 use Rattle.rules.specs.Lists.{any}
-use Rattle.readings.specs.Walk.{some-inside, some-end, AnyWalked, any-done, any-found, any-on, children-at, list-start}
+use Rattle.readings.specs.Walk.{some-inside, some-end, held-first, AnyWalked, any-done, any-found, any-on, children-at, list-start}
 use Rattle.readings.specs.Children.{tells-every}
 use Rattle.rules.specs.Facts.{possibleSymbol}
 use Rattle.readings.specs.Steps.{tells-not}
-use Rattle.readings.specs.Own.{tells-possible-symbol}
 use Rattle.readings.proofs.lists.only_possible_symbols.Statement.{statement}
 use Rattle.readings.proofs.lists.only_possible_symbols.Tie as tie
 
@@ -31,10 +30,10 @@ loop-holds : tie.Need-loop-holds Inv-loop μ-loop
 loop-holds c = list-start (c .before .before .pre) children-at (c .subtree-at .ensures .0) (λ (x : Tree). not (possibleSymbol x))
 
 possible-symbol-at-requires : tie.Need-possible-symbol-at-requires Inv-loop μ-loop
-possible-symbol-at-requires c κs = omega (arith, c .before .loop .inv .held .inside)
+possible-symbol-at-requires c κs = held-first (c .before .loop .inv .held) (omega arith)
 
 returns : tie.Need-returns Inv-loop μ-loop
-returns c = tells-every possibleSymbol (any-found (c .before .before .before .loop .inv) (c .before .before .loop-test .taken) _ (tells-not (tells-possible-symbol (c .before .possible-symbol-at .ensures))) (c .if1 .taken))
+returns c = tells-every possibleSymbol (any-found (c .before .before .before .loop .inv) (c .before .before .loop-test .taken) _ (tells-not (c .before .possible-symbol-at .ensures)) (c .if1 .taken))
 
 subtree-at-requires-2 : tie.Need-subtree-at-requires-2 Inv-loop μ-loop
 subtree-at-requires-2 c κs = omega (arith, c .before .before .before .loop .inv .held .inside)
@@ -46,7 +45,7 @@ loop-less : tie.Need-loop-less Inv-loop μ-loop
 loop-less c = omega (arith, c .subtree-at2 .ensures .0, held-some (c .before .before .before .before .loop .inv .held) (omega arith))
 
 loop-again : tie.Need-loop-again Inv-loop μ-loop
-loop-again c = any-on (c .before .before .before .before .loop .inv) (c .before .before .before .loop-test .taken) _ (tells-not (tells-possible-symbol (c .before .before .possible-symbol-at .ensures))) (c .before .if1 .left) _ (c .subtree-at2 .ensures .0)
+loop-again c = any-on (c .before .before .before .before .loop .inv) (c .before .before .before .loop-test .taken) _ (tells-not (c .before .before .possible-symbol-at .ensures)) (c .before .if1 .left) _ (c .subtree-at2 .ensures .0)
 
 returns-2 : tie.Need-returns-2 Inv-loop μ-loop
 returns-2 c = tells-every possibleSymbol (any-done (c .before .loop .inv) (c .loop-test .left))

@@ -163,7 +163,7 @@ abbrev remove-unused-expression-calls : ℕ → remove-unused-expression-lts.Cla
 remove-unused-expression-calls t = (handle-reads.Asked, handle-reads.Learnt, copy-tree-reads.Asked, copy-tree-reads.Learnt, reduce-children-below t, reduce-children.Post, reduce-rewritten-below t, reduce-rewritten.Post, first-size-reads.Asked, first-size-reads.Learnt, none-one-several-reads.Asked, none-one-several-reads.Learnt, remove-unused-addition-reads.Asked, remove-unused-addition-reads.Learnt, remove-unused-class-reads.Asked, remove-unused-class-reads.Learnt, reduce-conditional-below t, reduce-conditional.Post)
 
 reduce-child-waits-at-requires : (t : ℕ) → reduce-child-lts.Need-waits-at-requires (reduce-child-calls t) (reduce-child-at t) reduce-child.Post
-reduce-child-waits-at-requires t c κs = child-inside (c .before .before .pre .1)
+reduce-child-waits-at-requires t c κs = child-node (c .before .before .pre .1)
 
 reduce-child-hold-requires : (t : ℕ) → reduce-child-lts.Need-hold-requires (reduce-child-calls t) (reduce-child-at t) reduce-child.Post
 reduce-child-hold-requires t c κs = (c .before .before .before .before .before .pre .1 .input .inside, child-fits (c .before .before .before .before .before .pre .1))

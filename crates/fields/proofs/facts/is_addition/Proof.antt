@@ -1,7 +1,7 @@
-use Rattle.readings.specs.Steps.{no-addition, addition-by-sub}
+use Rattle.fields.specs.Facts.{no-addition, addition-by-sub}
 use borrow.Author.Needs.{needs}
-use Rattle.readings.proofs.facts.is_addition.Statement.{statement}
-use Rattle.readings.proofs.facts.is_addition.Tie as tie
+use Rattle.fields.proofs.facts.is_addition.Statement.{statement}
+use Rattle.fields.proofs.facts.is_addition.Tie as tie
 
 kind-at-requires : tie.Need-kind-at-requires
 kind-at-requires c κs = search needs

@@ -2,9 +2,9 @@ use mathlib.Core.Path.{ap}
 use Prim.Native.Nat.{ℕ, _/_, _%_}
 use lib.Dec.{eqb}
 use borrow.Author.Needs.{needs}
-use Rattle.rules.specs.Facts.{stringFact}
-use Rattle.readings.proofs.facts.string_fact_at.Statement.{statement}
-use Rattle.readings.proofs.facts.string_fact_at.Tie as tie
+use Rattle.fields.proofs.facts.string_fact_at.Statement.{statement}
+use Rattle.fields.proofs.facts.string_fact_at.Tie as tie
+use Rattle.tree.specs.Symbol.{stringFact}
 
 facts-at-requires : tie.Need-facts-at-requires
 facts-at-requires c κs = search needs

@@ -18,37 +18,37 @@ use Rattle.effects.specs.Sum.{sum-planned, sum-told, left-inside, left-g
 use Rattle.effects.specs.Class.{class-planned, class-first, heritage-within, heritage-given, class-itself, keys-given, statics-given, class-done}
 use borrow.Fn.Kinds.{In}
 use borrow.Fn.PlainCycle.{Measures, is, falls, and}
-use Rattle.readings.specs.Own.{tells-addition, tells-flagged, tells-possible-symbol, tells-static-block, tells-static-value, tells-string-fact}
+use Rattle.readings.specs.Own.{tells-addition, tells-flagged, tells-static-block, tells-static-value, tells-string-fact}
 use Rattle.effects.proofs.listing.list_addition.Reads as list-addition
 use Rattle.effects.proofs.listing.list_addition.Kinds as list-addition-kinds
-use Rattle.effects.proofs.listing.+list_addition+list_arguments+list_arm+list_children+list_class+list_expr+list_left+list_part+list_parts+list_static.Lts-list_addition as list-addition-lts
+use Rattle.effects.proofs.listing.+list_addition+list_arguments+list_arm+list_children+list_class+list_expr+list_part+list_parts+list_side+list_static.Lts-list_addition as list-addition-lts
 use Rattle.effects.proofs.listing.list_arguments.Reads as list-arguments
 use Rattle.effects.proofs.listing.list_arguments.Kinds as list-arguments-kinds
-use Rattle.effects.proofs.listing.+list_addition+list_arguments+list_arm+list_children+list_class+list_expr+list_left+list_part+list_parts+list_static.Lts-list_arguments as list-arguments-lts
+use Rattle.effects.proofs.listing.+list_addition+list_arguments+list_arm+list_children+list_class+list_expr+list_part+list_parts+list_side+list_static.Lts-list_arguments as list-arguments-lts
 use Rattle.effects.proofs.listing.list_arm.Reads as list-arm
 use Rattle.effects.proofs.listing.list_arm.Kinds as list-arm-kinds
-use Rattle.effects.proofs.listing.+list_addition+list_arguments+list_arm+list_children+list_class+list_expr+list_left+list_part+list_parts+list_static.Lts-list_arm as list-arm-lts
+use Rattle.effects.proofs.listing.+list_addition+list_arguments+list_arm+list_children+list_class+list_expr+list_part+list_parts+list_side+list_static.Lts-list_arm as list-arm-lts
 use Rattle.effects.proofs.listing.list_children.Reads as list-children
 use Rattle.effects.proofs.listing.list_children.Kinds as list-children-kinds
-use Rattle.effects.proofs.listing.+list_addition+list_arguments+list_arm+list_children+list_class+list_expr+list_left+list_part+list_parts+list_static.Lts-list_children as list-children-lts
+use Rattle.effects.proofs.listing.+list_addition+list_arguments+list_arm+list_children+list_class+list_expr+list_part+list_parts+list_side+list_static.Lts-list_children as list-children-lts
 use Rattle.effects.proofs.listing.list_class.Reads as list-class
 use Rattle.effects.proofs.listing.list_class.Kinds as list-class-kinds
-use Rattle.effects.proofs.listing.+list_addition+list_arguments+list_arm+list_children+list_class+list_expr+list_left+list_part+list_parts+list_static.Lts-list_class as list-class-lts
+use Rattle.effects.proofs.listing.+list_addition+list_arguments+list_arm+list_children+list_class+list_expr+list_part+list_parts+list_side+list_static.Lts-list_class as list-class-lts
 use Rattle.effects.proofs.listing.list_expr.Reads as list-expr
 use Rattle.effects.proofs.listing.list_expr.Kinds as list-expr-kinds
-use Rattle.effects.proofs.listing.+list_addition+list_arguments+list_arm+list_children+list_class+list_expr+list_left+list_part+list_parts+list_static.Lts-list_expr as list-expr-lts
-use Rattle.effects.proofs.listing.list_left.Reads as list-left
-use Rattle.effects.proofs.listing.list_left.Kinds as list-left-kinds
-use Rattle.effects.proofs.listing.+list_addition+list_arguments+list_arm+list_children+list_class+list_expr+list_left+list_part+list_parts+list_static.Lts-list_left as list-left-lts
+use Rattle.effects.proofs.listing.+list_addition+list_arguments+list_arm+list_children+list_class+list_expr+list_part+list_parts+list_side+list_static.Lts-list_expr as list-expr-lts
+use Rattle.effects.proofs.listing.list_side.Reads as list-side
+use Rattle.effects.proofs.listing.list_side.Kinds as list-side-kinds
+use Rattle.effects.proofs.listing.+list_addition+list_arguments+list_arm+list_children+list_class+list_expr+list_part+list_parts+list_side+list_static.Lts-list_side as list-side-lts
 use Rattle.effects.proofs.listing.list_part.Reads as list-part
 use Rattle.effects.proofs.listing.list_part.Kinds as list-part-kinds
-use Rattle.effects.proofs.listing.+list_addition+list_arguments+list_arm+list_children+list_class+list_expr+list_left+list_part+list_parts+list_static.Lts-list_part as list-part-lts
+use Rattle.effects.proofs.listing.+list_addition+list_arguments+list_arm+list_children+list_class+list_expr+list_part+list_parts+list_side+list_static.Lts-list_part as list-part-lts
 use Rattle.effects.proofs.listing.list_parts.Reads as list-parts
 use Rattle.effects.proofs.listing.list_parts.Kinds as list-parts-kinds
-use Rattle.effects.proofs.listing.+list_addition+list_arguments+list_arm+list_children+list_class+list_expr+list_left+list_part+list_parts+list_static.Lts-list_parts as list-parts-lts
+use Rattle.effects.proofs.listing.+list_addition+list_arguments+list_arm+list_children+list_class+list_expr+list_part+list_parts+list_side+list_static.Lts-list_parts as list-parts-lts
 use Rattle.effects.proofs.listing.list_static.Reads as list-static
 use Rattle.effects.proofs.listing.list_static.Kinds as list-static-kinds
-use Rattle.effects.proofs.listing.+list_addition+list_arguments+list_arm+list_children+list_class+list_expr+list_left+list_part+list_parts+list_static.Lts-list_static as list-static-lts
+use Rattle.effects.proofs.listing.+list_addition+list_arguments+list_arm+list_children+list_class+list_expr+list_part+list_parts+list_side+list_static.Lts-list_static as list-static-lts
 use Rattle.effects.proofs.entry.list_if.Reads as list-if-reads
 use Rattle.effects.proofs.plan.is_passed.Reads as is-passed-reads
 use Rattle.effects.proofs.plan.passed_itself.Reads as passed-itself-reads
@@ -59,14 +59,14 @@ use Rattle.readings.proofs.class_is_effect.Reads as class-is-effect-reads
 use Rattle.readings.proofs.has_static_value_at.Reads as has-static-value-at-reads
 use Rattle.readings.proofs.nonempty_static_block_at.Reads as nonempty-static-block-at-reads
 use Rattle.readings.proofs.flagged_at.Reads as flagged-at-reads
-use Rattle.readings.proofs.is_addition.Reads as is-addition-reads
-use Rattle.readings.proofs.possible_symbol_at.Reads as possible-symbol-at-reads
-use Rattle.readings.proofs.string_fact_at.Reads as string-fact-at-reads
+use Rattle.fields.proofs.is_addition.Reads as is-addition-reads
+use Rattle.readings.proofs.possible_symbol_if.Reads as possible-symbol-if-reads
+use Rattle.fields.proofs.string_fact_at.Reads as string-fact-at-reads
 use Rattle.readings.proofs.first_size.Reads as first-size-reads
-use Rattle.effects.proofs.listing.+list_addition+list_arguments+list_arm+list_children+list_class+list_expr+list_left+list_part+list_parts+list_static.{
+use Rattle.effects.proofs.listing.+list_addition+list_arguments+list_arm+list_children+list_class+list_expr+list_part+list_parts+list_side+list_static.{
   statement,
 }
-use Rattle.effects.proofs.listing.+list_addition+list_arguments+list_arm+list_children+list_class+list_expr+list_left+list_part+list_parts+list_static.Tie.{
+use Rattle.effects.proofs.listing.+list_addition+list_arguments+list_arm+list_children+list_class+list_expr+list_part+list_parts+list_side+list_static.Tie.{
   close,
 }
 
@@ -88,14 +88,14 @@ abbrev μ-list-class : Measures 3 list-class-kinds.ps ℕ
 abbrev μ-list-expr : Measures 3 list-expr-kinds.ps ℕ
 μ-list-expr κs a = a .1 .1 .1 .0 * 1048576 + a .1 .1 .0 * 8 + 2
 
-abbrev μ-list-left : Measures 3 list-left-kinds.ps ℕ
-μ-list-left κs a = a .1 .1 .1 .0 * 1048576 + a .1 .1 .0 * 8 + 4
-
 abbrev μ-list-part : Measures 3 list-part-kinds.ps ℕ
-μ-list-part κs a = a .1 .1 .1 .1 .0 * 1048576 + a .1 .1 .0 * 8 + 4
+μ-list-part κs a = a .1 .1 .1 .1 .0 * 1048576 + a .1 .1 .0 * 8 + 5
 
 abbrev μ-list-parts : Measures 3 list-parts-kinds.ps ℕ
-μ-list-parts κs a = a .1 .1 .1 .1 .0 * 1048576 + a .1 .1 .0 * 8 + 5
+μ-list-parts κs a = a .1 .1 .1 .1 .0 * 1048576 + a .1 .1 .0 * 8 + 6
+
+abbrev μ-list-side : Measures 3 list-side-kinds.ps ℕ
+μ-list-side κs a = a .1 .1 .1 .0 * 1048576 + a .1 .1 .0 * 8 + 4
 
 abbrev μ-list-static : Measures 3 list-static-kinds.ps ℕ
 μ-list-static κs a = a .1 .1 .1 .0 * 1048576 + a .1 .1 .0 * 8 + 3
@@ -162,13 +162,6 @@ abbrev list-expr-below : ℕ → In 3 list-expr-kinds.ps
 list-expr-below t =
     and 3 list-expr-kinds.ps (falls 3 list-expr-kinds.ps _<_ μ-list-expr t) list-expr.Pre
 
-abbrev list-left-at : ℕ → In 3 list-left-kinds.ps
-list-left-at t = and 3 list-left-kinds.ps (is 3 list-left-kinds.ps μ-list-left t) list-left.Pre
-
-abbrev list-left-below : ℕ → In 3 list-left-kinds.ps
-list-left-below t =
-    and 3 list-left-kinds.ps (falls 3 list-left-kinds.ps _<_ μ-list-left t) list-left.Pre
-
 abbrev list-part-at : ℕ → In 3 list-part-kinds.ps
 list-part-at t = and 3 list-part-kinds.ps (is 3 list-part-kinds.ps μ-list-part t) list-part.Pre
 
@@ -184,6 +177,13 @@ abbrev list-parts-below : ℕ → In 3 list-parts-kinds.ps
 list-parts-below t =
     and 3 list-parts-kinds.ps (falls 3 list-parts-kinds.ps _<_ μ-list-parts t) list-parts.Pre
 
+abbrev list-side-at : ℕ → In 3 list-side-kinds.ps
+list-side-at t = and 3 list-side-kinds.ps (is 3 list-side-kinds.ps μ-list-side t) list-side.Pre
+
+abbrev list-side-below : ℕ → In 3 list-side-kinds.ps
+list-side-below t =
+    and 3 list-side-kinds.ps (falls 3 list-side-kinds.ps _<_ μ-list-side t) list-side.Pre
+
 abbrev list-static-at : ℕ → In 3 list-static-kinds.ps
 list-static-at t =
     and 3 list-static-kinds.ps (is 3 list-static-kinds.ps μ-list-static t) list-static.Pre
@@ -193,7 +193,7 @@ list-static-below t =
     and 3 list-static-kinds.ps (falls 3 list-static-kinds.ps _<_ μ-list-static t) list-static.Pre
 
 abbrev list-addition-calls : ℕ → list-addition-lts.Claims
-list-addition-calls t = (subtree-at-reads.Asked, subtree-at-reads.Learnt, list-left-below t, list-left.Post, list-children-below t, list-children.Post, possible-symbol-at-reads.Asked, possible-symbol-at-reads.Learnt, list-if-reads.Asked, list-if-reads.Learnt, string-fact-at-reads.Asked, string-fact-at-reads.Learnt, flagged-at-reads.Asked, flagged-at-reads.Learnt)
+list-addition-calls t = (subtree-at-reads.Asked, subtree-at-reads.Learnt, list-side-below t, list-side.Post, possible-symbol-if-reads.Asked, possible-symbol-if-reads.Learnt, list-if-reads.Asked, list-if-reads.Learnt, string-fact-at-reads.Asked, string-fact-at-reads.Learnt, flagged-at-reads.Asked, flagged-at-reads.Learnt)
 
 abbrev list-arguments-calls : ℕ → list-arguments-lts.Claims
 list-arguments-calls t = (first-size-reads.Asked, first-size-reads.Learnt, list-children-below t, list-children.Post)
@@ -210,14 +210,14 @@ list-class-calls t = (sub-at-reads.Asked, sub-at-reads.Learnt, first-size-reads.
 abbrev list-expr-calls : ℕ → list-expr-lts.Claims
 list-expr-calls t = (plan-of-reads.Asked, plan-of-reads.Learnt, list-children-below t, list-children.Post, list-if-reads.Asked, list-if-reads.Learnt, list-parts-below t, list-parts.Post, list-arguments-below t, list-arguments.Post, first-size-reads.Asked, first-size-reads.Learnt, list-arm-below t, list-arm.Post, list-addition-below t, list-addition.Post, list-class-below t, list-class.Post)
 
-abbrev list-left-calls : ℕ → list-left-lts.Claims
-list-left-calls t = (is-addition-reads.Asked, is-addition-reads.Learnt, list-addition-below t, list-addition.Post, list-children-below t, list-children.Post, string-fact-at-reads.Asked, string-fact-at-reads.Learnt)
-
 abbrev list-part-calls : ℕ → list-part-lts.Claims
-list-part-calls t = (list-children-below t, list-children.Post, possible-symbol-at-reads.Asked, possible-symbol-at-reads.Learnt, list-if-reads.Asked, list-if-reads.Learnt, sub-at-reads.Asked, sub-at-reads.Learnt, first-size-reads.Asked, first-size-reads.Learnt, list-static-below t, list-static.Post)
+list-part-calls t = (list-side-below t, list-side.Post, possible-symbol-if-reads.Asked, possible-symbol-if-reads.Learnt, list-if-reads.Asked, list-if-reads.Learnt, sub-at-reads.Asked, sub-at-reads.Learnt, first-size-reads.Asked, first-size-reads.Learnt, list-children-below t, list-children.Post, list-static-below t, list-static.Post)
 
 abbrev list-parts-calls : ℕ → list-parts-lts.Claims
 list-parts-calls t = (subtree-at-reads.Asked, subtree-at-reads.Learnt, list-part-below t, list-part.Post)
+
+abbrev list-side-calls : ℕ → list-side-lts.Claims
+list-side-calls t = (is-addition-reads.Asked, is-addition-reads.Learnt, list-addition-below t, list-addition.Post, list-children-below t, list-children.Post, string-fact-at-reads.Asked, string-fact-at-reads.Learnt)
 
 abbrev list-static-calls : ℕ → list-static-lts.Claims
 list-static-calls t = (nonempty-static-block-at-reads.Asked, nonempty-static-block-at-reads.Learnt, has-static-value-at-reads.Asked, has-static-value-at-reads.Learnt, sub-at-reads.Asked, sub-at-reads.Learnt, first-size-reads.Asked, first-size-reads.Learnt, list-children-below t, list-children.Post, list-if-reads.Asked, list-if-reads.Learnt)
@@ -231,11 +231,11 @@ list-addition-add-subtree-at t c = omega (arith, left-inside _ _ _ _ (c .before 
 list-addition-subtree-at-requires : (t : ℕ) → list-addition-lts.Need-subtree-at-requires (list-addition-calls t) (list-addition-at t) list-addition.Post
 list-addition-subtree-at-requires t c κs = omega (arith, left-inside _ _ _ _ (c .before .before .before .pre .1 .kind-is) (c .before .before .before .pre .1 .sub-is) (c .before .before .before .pre .1 .given))
 
-list-addition-add-list-left : (t : ℕ) → list-addition-lts.Need-add-list-left (list-addition-calls t) (list-addition-at t) list-addition.Post
-list-addition-add-list-left t c = omega (arith, left-inside _ _ _ _ (c .before .before .before .before .pre .1 .kind-is) (c .before .before .before .before .pre .1 .sub-is) (c .before .before .before .before .pre .1 .given))
+list-addition-add-list-side : (t : ℕ) → list-addition-lts.Need-add-list-side (list-addition-calls t) (list-addition-at t) list-addition.Post
+list-addition-add-list-side t c = omega (arith, left-inside _ _ _ _ (c .before .before .before .before .pre .1 .kind-is) (c .before .before .before .before .pre .1 .sub-is) (c .before .before .before .before .pre .1 .given))
 
-list-addition-list-left-requires : (t : ℕ) → list-addition-lts.Need-list-left-requires (list-addition-calls t) (list-addition-at t) list-addition.Post
-list-addition-list-left-requires t c κs = let g = left-given _ _ _ _ (c .before .before .before .before .before .pre .1 .kind-is) (c .before .before .before .before .before .pre .1 .sub-is) (c .before .before .before .before .before .pre .1 .given) _ (c .before .subtree-at .ensures .0) in (omega (arith, c .before .before .before .before .before .pre .0, g .input .small, some-depth ((c .before .before .before .before .before .pre .1 .given) .input)), g)
+list-addition-list-side-requires : (t : ℕ) → list-addition-lts.Need-list-side-requires (list-addition-calls t) (list-addition-at t) list-addition.Post
+list-addition-list-side-requires t c κs = let g = left-given _ _ _ _ (c .before .before .before .before .before .pre .1 .kind-is) (c .before .before .before .before .before .pre .1 .sub-is) (c .before .before .before .before .before .pre .1 .given) _ (c .before .subtree-at .ensures .0) in (omega (arith, c .before .before .before .before .before .pre .0, g .input .small, some-depth ((c .before .before .before .before .before .pre .1 .given) .input)), g)
 
 list-addition-add-right : (t : ℕ) → list-addition-lts.Need-add-right (list-addition-calls t) (list-addition-at t) list-addition.Post
 list-addition-add-right t c = omega (arith, left-inside _ _ _ _ (c .before .before .before .before .before .before .before .before .pre .1 .kind-is) (c .before .before .before .before .before .before .before .before .pre .1 .sub-is) (c .before .before .before .before .before .before .before .before .pre .1 .given))
@@ -246,53 +246,53 @@ list-addition-add-right-2 t c = omega (arith, right-inside _ _ _ _ (c .before .b
 list-addition-subtree-at-requires-2 : (t : ℕ) → list-addition-lts.Need-subtree-at-requires-2 (list-addition-calls t) (list-addition-at t) list-addition.Post
 list-addition-subtree-at-requires-2 t c κs = right-inside _ _ _ _ (c .before .before .before .before .before .before .before .before .pre .1 .kind-is) (c .before .before .before .before .before .before .before .before .pre .1 .sub-is) (c .before .before .before .before .before .before .before .before .pre .1 .given) _ (c .before .before .before .before .subtree-at .ensures .0)
 
-list-addition-list-children-requires : (t : ℕ) → list-addition-lts.Need-list-children-requires (list-addition-calls t) (list-addition-at t) list-addition.Post
-list-addition-list-children-requires t c κs = let g = right-given _ _ _ _ (c .before .before .before .before .before .before .before .before .before .before .pre .1 .kind-is) (c .before .before .before .before .before .before .before .before .before .before .pre .1 .sub-is) (c .before .before .before .before .before .before .before .before .before .before .pre .1 .given) _ (c .before .before .before .before .before .before .subtree-at .ensures .0) (c .before .before .before .before .list-left .ensures) _ (c .before .subtree-at2 .ensures .0) in (omega (arith, c .before .before .before .before .before .before .before .before .before .before .pre .0, g .input .small, some-depth ((c .before .before .before .before .before .before .before .before .before .before .pre .1 .given) .input)), rw (c .before .before .before .before .list-left .kept .1 .1 .1 .1 .1 .1 .0) (given-one g))
+list-addition-list-side-requires-2 : (t : ℕ) → list-addition-lts.Need-list-side-requires-2 (list-addition-calls t) (list-addition-at t) list-addition.Post
+list-addition-list-side-requires-2 t c κs = let g = right-given _ _ _ _ (c .before .before .before .before .before .before .before .before .before .before .pre .1 .kind-is) (c .before .before .before .before .before .before .before .before .before .before .pre .1 .sub-is) (c .before .before .before .before .before .before .before .before .before .before .pre .1 .given) _ (c .before .before .before .before .before .before .subtree-at .ensures .0) (c .before .before .before .before .list-side .ensures) _ (c .before .subtree-at2 .ensures .0) in (omega (arith, c .before .before .before .before .before .before .before .before .before .before .pre .0, g .input .small, some-depth ((c .before .before .before .before .before .before .before .before .before .before .pre .1 .given) .input)), rw (c .before .before .before .before .list-side .kept .1 .1 .1 .1 .1 .1 .0) g)
 
-list-addition-possible-symbol-at-requires : (t : ℕ) → list-addition-lts.Need-possible-symbol-at-requires (list-addition-calls t) (list-addition-at t) list-addition.Post
-list-addition-possible-symbol-at-requires t c κs = right-inside _ _ _ _ (c .before .before .before .before .before .before .before .before .before .before .before .before .before .before .pre .1 .kind-is) (c .before .before .before .before .before .before .before .before .before .before .before .before .before .before .pre .1 .sub-is) (c .before .before .before .before .before .before .before .before .before .before .before .before .before .before .pre .1 .given) _ (c .before .before .before .before .before .before .before .before .before .before .subtree-at .ensures .0)
+list-addition-possible-symbol-if-requires : (t : ℕ) → list-addition-lts.Need-possible-symbol-if-requires (list-addition-calls t) (list-addition-at t) list-addition.Post
+list-addition-possible-symbol-if-requires t c κs = right-inside _ _ _ _ (c .before .before .before .before .before .before .before .before .before .before .before .before .before .before .pre .1 .kind-is) (c .before .before .before .before .before .before .before .before .before .before .before .before .before .before .pre .1 .sub-is) (c .before .before .before .before .before .before .before .before .before .before .before .before .before .before .pre .1 .given) _ (c .before .before .before .before .before .before .before .before .before .before .subtree-at .ensures .0)
 
 list-addition-list-if-requires : (t : ℕ) → list-addition-lts.Need-list-if-requires (list-addition-calls t) (list-addition-at t) list-addition.Post
-list-addition-list-if-requires t c κs = rw (c .before .before .before .before .before .list-children .kept .1 .1 .1 .1 .1 .1 .0, c .before .before .before .before .before .before .before .before .before .before .list-left .kept .1 .1 .1 .1 .1 .1 .0) (right-coercion _ _ _ _ (c .before .before .before .before .before .before .before .before .before .before .before .before .before .before .before .before .pre .1 .kind-is) (c .before .before .before .before .before .before .before .before .before .before .before .before .before .before .before .before .pre .1 .sub-is) (c .before .before .before .before .before .before .before .before .before .before .before .before .subtree-at .ensures .0) (c .before .before .before .before .before .before .before .subtree-at2 .ensures .0) (c .before .before .before .before .before .before .before .before .before .before .list-left .ensures) (listed-one (c .before .before .before .before .before .list-children .ensures)) _ (c .before .before .if1 .taken) (tells-possible-symbol (c .before .possible-symbol-at .ensures)) (c .before .before .before .before .before .before .before .before .before .before .before .before .before .before .before .before .pre .1 .given))
+list-addition-list-if-requires t c κs = rw (c .before .before .before .before .before .list-side2 .kept .1 .1 .1 .1 .1 .1 .0, c .before .before .before .before .before .before .before .before .before .before .list-side .kept .1 .1 .1 .1 .1 .1 .0) (right-coercion _ _ _ _ (c .before .before .before .before .before .before .before .before .before .before .before .before .before .before .before .before .pre .1 .kind-is) (c .before .before .before .before .before .before .before .before .before .before .before .before .before .before .before .before .pre .1 .sub-is) (c .before .before .before .before .before .before .before .before .before .before .before .before .subtree-at .ensures .0) (c .before .before .before .before .before .before .before .subtree-at2 .ensures .0) (c .before .before .before .before .before .before .before .before .before .before .list-side .ensures) (c .before .before .before .before .before .list-side2 .ensures) _ (c .before .before .if1 .taken) (c .before .possible-symbol-if .ensures) (c .before .before .before .before .before .before .before .before .before .before .before .before .before .before .before .before .pre .1 .given))
 
 list-addition-same-length : (t : ℕ) → list-addition-lts.Need-same-length (list-addition-calls t) (list-addition-at t) list-addition.Post
 list-addition-same-length t c = search needs
 
 list-addition-returns : (t : ℕ) → list-addition-lts.Need-returns (list-addition-calls t) (list-addition-at t) list-addition.Post
-list-addition-returns t c = right-done _ _ _ _ (c .before .before .before .before .before .before .before .before .before .before .before .before .before .before .before .before .before .before .before .pre .1 .kind-is) (c .before .before .before .before .before .before .before .before .before .before .before .before .before .before .before .before .before .before .before .pre .1 .sub-is) (c .before .before .before .before .before .before .before .before .before .before .before .before .before .before .before .subtree-at .ensures .0) (c .before .before .before .before .before .before .before .before .before .before .subtree-at2 .ensures .0) (c .before .before .before .before .before .before .before .before .before .before .before .before .before .list-left .ensures) (listed-one (c .before .before .before .before .before .before .before .before .list-children .ensures)) _ (c .before .before .before .before .before .if1 .taken) (tells-possible-symbol (c .before .before .before .before .possible-symbol-at .ensures)) (c .before .before .list-if .ensures)
+list-addition-returns t c = right-done _ _ _ _ (c .before .before .before .before .before .before .before .before .before .before .before .before .before .before .before .before .before .before .before .pre .1 .kind-is) (c .before .before .before .before .before .before .before .before .before .before .before .before .before .before .before .before .before .before .before .pre .1 .sub-is) (c .before .before .before .before .before .before .before .before .before .before .before .before .before .before .before .subtree-at .ensures .0) (c .before .before .before .before .before .before .before .before .before .before .subtree-at2 .ensures .0) (c .before .before .before .before .before .before .before .before .before .before .before .before .before .list-side .ensures) (c .before .before .before .before .before .before .before .before .list-side2 .ensures) _ (c .before .before .before .before .before .if1 .taken) (c .before .before .before .before .possible-symbol-if .ensures) (c .before .before .list-if .ensures)
 
 list-addition-string-fact-at-requires : (t : ℕ) → list-addition-lts.Need-string-fact-at-requires (list-addition-calls t) (list-addition-at t) list-addition.Post
 list-addition-string-fact-at-requires t c κs = right-inside _ _ _ _ (c .before .before .before .before .before .before .before .before .before .before .before .before .before .before .pre .1 .kind-is) (c .before .before .before .before .before .before .before .before .before .before .before .before .before .before .pre .1 .sub-is) (c .before .before .before .before .before .before .before .before .before .before .before .before .before .before .pre .1 .given) _ (c .before .before .before .before .before .before .before .before .before .before .subtree-at .ensures .0)
 
-list-addition-add-possible-symbol-at : (t : ℕ) → list-addition-lts.Need-add-possible-symbol-at (list-addition-calls t) (list-addition-at t) list-addition.Post
-list-addition-add-possible-symbol-at t c = omega (arith, left-inside _ _ _ _ (c .before .before .before .before .before .before .before .before .before .before .before .before .before .before .before .before .pre .1 .kind-is) (c .before .before .before .before .before .before .before .before .before .before .before .before .before .before .before .before .pre .1 .sub-is) (c .before .before .before .before .before .before .before .before .before .before .before .before .before .before .before .before .pre .1 .given))
+list-addition-add-possible-symbol-if : (t : ℕ) → list-addition-lts.Need-add-possible-symbol-if (list-addition-calls t) (list-addition-at t) list-addition.Post
+list-addition-add-possible-symbol-if t c = omega (arith, left-inside _ _ _ _ (c .before .before .before .before .before .before .before .before .before .before .before .before .before .before .before .before .pre .1 .kind-is) (c .before .before .before .before .before .before .before .before .before .before .before .before .before .before .before .before .pre .1 .sub-is) (c .before .before .before .before .before .before .before .before .before .before .before .before .before .before .before .before .pre .1 .given))
 
-list-addition-possible-symbol-at-requires-2 : (t : ℕ) → list-addition-lts.Need-possible-symbol-at-requires-2 (list-addition-calls t) (list-addition-at t) list-addition.Post
-list-addition-possible-symbol-at-requires-2 t c κs = omega (arith, left-inside _ _ _ _ (c .before .before .before .before .before .before .before .before .before .before .before .before .before .before .before .before .pre .1 .kind-is) (c .before .before .before .before .before .before .before .before .before .before .before .before .before .before .before .before .pre .1 .sub-is) (c .before .before .before .before .before .before .before .before .before .before .before .before .before .before .before .before .pre .1 .given))
+list-addition-possible-symbol-if-requires-2 : (t : ℕ) → list-addition-lts.Need-possible-symbol-if-requires-2 (list-addition-calls t) (list-addition-at t) list-addition.Post
+list-addition-possible-symbol-if-requires-2 t c κs = omega (arith, left-inside _ _ _ _ (c .before .before .before .before .before .before .before .before .before .before .before .before .before .before .before .before .pre .1 .kind-is) (c .before .before .before .before .before .before .before .before .before .before .before .before .before .before .before .before .pre .1 .sub-is) (c .before .before .before .before .before .before .before .before .before .before .before .before .before .before .before .before .pre .1 .given))
 
 list-addition-add-list-if : (t : ℕ) → list-addition-lts.Need-add-list-if (list-addition-calls t) (list-addition-at t) list-addition.Post
 list-addition-add-list-if t c = omega (arith, left-inside _ _ _ _ (c .before .before .before .before .before .before .before .before .before .before .before .before .before .before .before .before .before .pre .1 .kind-is) (c .before .before .before .before .before .before .before .before .before .before .before .before .before .before .before .before .before .pre .1 .sub-is) (c .before .before .before .before .before .before .before .before .before .before .before .before .before .before .before .before .before .pre .1 .given))
 
 list-addition-list-if-requires-2 : (t : ℕ) → list-addition-lts.Need-list-if-requires-2 (list-addition-calls t) (list-addition-at t) list-addition.Post
-list-addition-list-if-requires-2 t c κs = rw (c .before .before .before .before .before .before .before .list-children .kept .1 .1 .1 .1 .1 .1 .0, c .before .before .before .before .before .before .before .before .before .before .before .before .list-left .kept .1 .1 .1 .1 .1 .1 .0) (left-coercion _ _ _ _ (c .before .before .before .before .before .before .before .before .before .before .before .before .before .before .before .before .before .before .pre .1 .kind-is) (c .before .before .before .before .before .before .before .before .before .before .before .before .before .before .before .before .before .before .pre .1 .sub-is) (c .before .before .before .before .before .before .before .before .before .before .before .before .before .before .subtree-at .ensures .0) (c .before .before .before .before .before .before .before .before .before .subtree-at2 .ensures .0) (c .before .before .before .before .before .before .before .before .before .before .before .before .list-left .ensures) (listed-one (c .before .before .before .before .before .before .before .list-children .ensures)) _ (c .before .before .before .before .if1 .left) _ (tells-string-fact (c .before .before .before .string-fact-at .ensures)) (c .before .before .if2 .taken) (tells-possible-symbol (c .before .possible-symbol-at2 .ensures)) (c .before .before .before .before .before .before .before .before .before .before .before .before .before .before .before .before .before .before .pre .1 .given))
+list-addition-list-if-requires-2 t c κs = rw (c .before .before .before .before .before .before .before .list-side2 .kept .1 .1 .1 .1 .1 .1 .0, c .before .before .before .before .before .before .before .before .before .before .before .before .list-side .kept .1 .1 .1 .1 .1 .1 .0) (left-coercion _ _ _ _ (c .before .before .before .before .before .before .before .before .before .before .before .before .before .before .before .before .before .before .pre .1 .kind-is) (c .before .before .before .before .before .before .before .before .before .before .before .before .before .before .before .before .before .before .pre .1 .sub-is) (c .before .before .before .before .before .before .before .before .before .before .before .before .before .before .subtree-at .ensures .0) (c .before .before .before .before .before .before .before .before .before .subtree-at2 .ensures .0) (c .before .before .before .before .before .before .before .before .before .before .before .before .list-side .ensures) (c .before .before .before .before .before .before .before .list-side2 .ensures) _ (c .before .before .before .before .if1 .left) _ (tells-string-fact (c .before .before .before .string-fact-at .ensures)) (c .before .before .if2 .taken) (c .before .possible-symbol-if2 .ensures) (c .before .before .before .before .before .before .before .before .before .before .before .before .before .before .before .before .before .before .pre .1 .given))
 
 list-addition-same-length-2 : (t : ℕ) → list-addition-lts.Need-same-length-2 (list-addition-calls t) (list-addition-at t) list-addition.Post
 list-addition-same-length-2 t c = search needs
 
 list-addition-returns-2 : (t : ℕ) → list-addition-lts.Need-returns-2 (list-addition-calls t) (list-addition-at t) list-addition.Post
-list-addition-returns-2 t c = left-done _ _ _ _ (c .before .before .before .before .before .before .before .before .before .before .before .before .before .before .before .before .before .before .before .before .before .pre .1 .kind-is) (c .before .before .before .before .before .before .before .before .before .before .before .before .before .before .before .before .before .before .before .before .before .pre .1 .sub-is) (c .before .before .before .before .before .before .before .before .before .before .before .before .before .before .before .before .before .subtree-at .ensures .0) (c .before .before .before .before .before .before .before .before .before .before .before .before .subtree-at2 .ensures .0) (c .before .before .before .before .before .before .before .before .before .before .before .before .before .before .before .list-left .ensures) (listed-one (c .before .before .before .before .before .before .before .before .before .before .list-children .ensures)) _ (c .before .before .before .before .before .before .before .if1 .left) _ (tells-string-fact (c .before .before .before .before .before .before .string-fact-at .ensures)) (c .before .before .before .before .before .if2 .taken) (tells-possible-symbol (c .before .before .before .before .possible-symbol-at2 .ensures)) (c .before .before .list-if2 .ensures)
+list-addition-returns-2 t c = left-done _ _ _ _ (c .before .before .before .before .before .before .before .before .before .before .before .before .before .before .before .before .before .before .before .before .before .pre .1 .kind-is) (c .before .before .before .before .before .before .before .before .before .before .before .before .before .before .before .before .before .before .before .before .before .pre .1 .sub-is) (c .before .before .before .before .before .before .before .before .before .before .before .before .before .before .before .before .before .subtree-at .ensures .0) (c .before .before .before .before .before .before .before .before .before .before .before .before .subtree-at2 .ensures .0) (c .before .before .before .before .before .before .before .before .before .before .before .before .before .before .before .list-side .ensures) (c .before .before .before .before .before .before .before .before .before .before .list-side2 .ensures) _ (c .before .before .before .before .before .before .before .if1 .left) _ (tells-string-fact (c .before .before .before .before .before .before .string-fact-at .ensures)) (c .before .before .before .before .before .if2 .taken) (c .before .before .before .before .possible-symbol-if2 .ensures) (c .before .before .list-if2 .ensures)
 
 list-addition-flagged-at-requires : (t : ℕ) → list-addition-lts.Need-flagged-at-requires (list-addition-calls t) (list-addition-at t) list-addition.Post
 list-addition-flagged-at-requires t c κs = given-inside (c .before .before .before .before .before .before .before .before .before .before .before .before .before .before .before .before .pre .1 .given)
 
 list-addition-list-if-requires-3 : (t : ℕ) → list-addition-lts.Need-list-if-requires-3 (list-addition-calls t) (list-addition-at t) list-addition.Post
-list-addition-list-if-requires-3 t c κs = rw (c .before .before .before .before .before .before .before .list-children .kept .1 .1 .1 .1 .1 .1 .0, c .before .before .before .before .before .before .before .before .before .before .before .before .list-left .kept .1 .1 .1 .1 .1 .1 .0) (sum-itself _ _ _ _ (c .before .before .before .before .before .before .before .before .before .before .before .before .before .before .before .before .before .before .pre .1 .kind-is) (c .before .before .before .before .before .before .before .before .before .before .before .before .before .before .before .before .before .before .pre .1 .sub-is) (c .before .before .before .before .before .before .before .before .before .before .before .before .before .before .subtree-at .ensures .0) (c .before .before .before .before .before .before .before .before .before .subtree-at2 .ensures .0) (c .before .before .before .before .before .before .before .before .before .before .before .before .list-left .ensures) (listed-one (c .before .before .before .before .before .before .before .list-children .ensures)) _ (c .before .before .before .before .if1 .left) _ (tells-string-fact (c .before .before .before .string-fact-at .ensures)) (c .before .before .if2 .left) (tells-flagged (c .before .flagged-at .ensures)) (c .before .before .before .before .before .before .before .before .before .before .before .before .before .before .before .before .before .before .pre .1 .given))
+list-addition-list-if-requires-3 t c κs = rw (c .before .before .before .before .before .before .before .list-side2 .kept .1 .1 .1 .1 .1 .1 .0, c .before .before .before .before .before .before .before .before .before .before .before .before .list-side .kept .1 .1 .1 .1 .1 .1 .0) (sum-itself _ _ _ _ (c .before .before .before .before .before .before .before .before .before .before .before .before .before .before .before .before .before .before .pre .1 .kind-is) (c .before .before .before .before .before .before .before .before .before .before .before .before .before .before .before .before .before .before .pre .1 .sub-is) (c .before .before .before .before .before .before .before .before .before .before .before .before .before .before .subtree-at .ensures .0) (c .before .before .before .before .before .before .before .before .before .subtree-at2 .ensures .0) (c .before .before .before .before .before .before .before .before .before .before .before .before .list-side .ensures) (c .before .before .before .before .before .before .before .list-side2 .ensures) _ (c .before .before .before .before .if1 .left) _ (tells-string-fact (c .before .before .before .string-fact-at .ensures)) (c .before .before .if2 .left) (tells-flagged (c .before .flagged-at .ensures)) (c .before .before .before .before .before .before .before .before .before .before .before .before .before .before .before .before .before .before .pre .1 .given))
 
 list-addition-same-length-3 : (t : ℕ) → list-addition-lts.Need-same-length-3 (list-addition-calls t) (list-addition-at t) list-addition.Post
 list-addition-same-length-3 t c = search needs
 
 list-addition-returns-3 : (t : ℕ) → list-addition-lts.Need-returns-3 (list-addition-calls t) (list-addition-at t) list-addition.Post
-list-addition-returns-3 t c = sum-done _ _ _ _ (c .before .before .before .before .before .before .before .before .before .before .before .before .before .before .before .before .before .before .before .before .before .pre .1 .kind-is) (c .before .before .before .before .before .before .before .before .before .before .before .before .before .before .before .before .before .before .before .before .before .pre .1 .sub-is) (c .before .before .before .before .before .before .before .before .before .before .before .before .before .before .before .before .before .subtree-at .ensures .0) (c .before .before .before .before .before .before .before .before .before .before .before .before .subtree-at2 .ensures .0) (c .before .before .before .before .before .before .before .before .before .before .before .before .before .before .before .list-left .ensures) (listed-one (c .before .before .before .before .before .before .before .before .before .before .list-children .ensures)) _ (c .before .before .before .before .before .before .before .if1 .left) _ (tells-string-fact (c .before .before .before .before .before .before .string-fact-at .ensures)) (c .before .before .before .before .before .if2 .left) (tells-flagged (c .before .before .before .before .flagged-at .ensures)) (c .before .before .list-if3 .ensures)
+list-addition-returns-3 t c = sum-done _ _ _ _ (c .before .before .before .before .before .before .before .before .before .before .before .before .before .before .before .before .before .before .before .before .before .pre .1 .kind-is) (c .before .before .before .before .before .before .before .before .before .before .before .before .before .before .before .before .before .before .before .before .before .pre .1 .sub-is) (c .before .before .before .before .before .before .before .before .before .before .before .before .before .before .before .before .before .subtree-at .ensures .0) (c .before .before .before .before .before .before .before .before .before .before .before .before .subtree-at2 .ensures .0) (c .before .before .before .before .before .before .before .before .before .before .before .before .before .before .before .list-side .ensures) (c .before .before .before .before .before .before .before .before .before .before .list-side2 .ensures) _ (c .before .before .before .before .before .before .before .if1 .left) _ (tells-string-fact (c .before .before .before .before .before .before .string-fact-at .ensures)) (c .before .before .before .before .before .if2 .left) (tells-flagged (c .before .before .before .before .flagged-at .ensures)) (c .before .before .list-if3 .ensures)
 
 list-arguments-first-size-requires : (t : ℕ) → list-arguments-lts.Need-first-size-requires (list-arguments-calls t) (list-arguments-at t) list-arguments.Post
 list-arguments-first-size-requires t c κs = callee-first (c .before .before .before .pre .1 .plan) (c .before .before .before .pre .1 .given)
@@ -570,41 +570,17 @@ list-expr-same-length-7 t c = search needs
 list-expr-returns-8 : (t : ℕ) → list-expr-lts.Need-returns-8 (list-expr-calls t) (list-expr-at t) list-expr.Post
 list-expr-returns-8 t c = c .before .before .list-class .ensures
 
-list-left-is-addition-requires : (t : ℕ) → list-left-lts.Need-is-addition-requires (list-left-calls t) (list-left-at t) list-left.Post
-list-left-is-addition-requires t c κs = given-inside (c .before .before .before .pre .1)
-
-list-left-list-addition-requires : (t : ℕ) → list-left-lts.Need-list-addition-requires (list-left-calls t) (list-left-at t) list-left.Post
-list-left-list-addition-requires t c κs = (omega (arith, c .before .before .before .before .before .before .pre .0), sum-told _ (tells-addition (c .before .before .is-addition .ensures)) (c .before .if1 .taken) (c .before .before .before .before .before .before .pre .1))
-
-list-left-same-length : (t : ℕ) → list-left-lts.Need-same-length (list-left-calls t) (list-left-at t) list-left.Post
-list-left-same-length t c = search needs
-
-list-left-returns : (t : ℕ) → list-left-lts.Need-returns (list-left-calls t) (list-left-at t) list-left.Post
-list-left-returns t c = c .before .before .list-addition .ensures
-
-list-left-list-children-requires : (t : ℕ) → list-left-lts.Need-list-children-requires (list-left-calls t) (list-left-at t) list-left.Post
-list-left-list-children-requires t c κs = (omega (arith, c .before .before .before .before .before .before .pre .0), given-one (c .before .before .before .before .before .before .pre .1))
-
-list-left-string-fact-at-requires : (t : ℕ) → list-left-lts.Need-string-fact-at-requires (list-left-calls t) (list-left-at t) list-left.Post
-list-left-string-fact-at-requires t c κs = given-inside (c .before .before .before .before .before .before .before .before .before .pre .1)
-
-list-left-same-length-2 : (t : ℕ) → list-left-lts.Need-same-length-2 (list-left-calls t) (list-left-at t) list-left.Post
-list-left-same-length-2 t c = search needs
-
-list-left-returns-2 : (t : ℕ) → list-left-lts.Need-returns-2 (list-left-calls t) (list-left-at t) list-left.Post
-list-left-returns-2 t c = side-other _ _ (tells-addition (c .before .before .before .before .before .before .is-addition .ensures)) (c .before .before .before .before .before .if1 .left) (tells-string-fact (c .string-fact-at .ensures)) (listed-one (c .before .before .before .list-children .ensures))
-
 list-part-enum-told : (t : ℕ) → list-part-lts.Need-enum-told (list-part-calls t) (list-part-at t) list-part.Post
 list-part-enum-told t c = search needs
 
-list-part-list-children-requires : (t : ℕ) → list-part-lts.Need-list-children-requires (list-part-calls t) (list-part-at t) list-part.Post
-list-part-list-children-requires t c κs = (omega (arith, c .before .before .before .before .before .before .pre .0), given-one (coerced-given (as-part Coerced (c .before .enum-told .given .1) (c .before .before .before .before .before .before .pre .1))))
+list-part-list-side-requires : (t : ℕ) → list-part-lts.Need-list-side-requires (list-part-calls t) (list-part-at t) list-part.Post
+list-part-list-side-requires t c κs = (omega (arith, c .before .before .before .before .before .before .pre .0), coerced-given (as-part Coerced (c .before .enum-told .given .1) (c .before .before .before .before .before .before .pre .1)))
 
-list-part-possible-symbol-at-requires : (t : ℕ) → list-part-lts.Need-possible-symbol-at-requires (list-part-calls t) (list-part-at t) list-part.Post
-list-part-possible-symbol-at-requires t c κs = given-inside (c .before .before .before .before .before .before .before .before .before .pre .1)
+list-part-possible-symbol-if-requires : (t : ℕ) → list-part-lts.Need-possible-symbol-if-requires (list-part-calls t) (list-part-at t) list-part.Post
+list-part-possible-symbol-if-requires t c κs = given-inside (c .before .before .before .before .before .before .before .before .before .pre .1)
 
 list-part-list-if-requires : (t : ℕ) → list-part-lts.Need-list-if-requires (list-part-calls t) (list-part-at t) list-part.Post
-list-part-list-if-requires t c κs = rw (c .before .before .before .before .list-children .kept .1 .1 .1 .1 .1 .1 .0) (coerced-entry (as-part Coerced (c .before .before .before .before .before .before .enum-told .given .1) (c .before .before .before .before .before .before .before .before .before .before .before .pre .1)) (listed-one (c .before .before .before .before .list-children .ensures)) _ (tells-possible-symbol (c .before .possible-symbol-at .ensures)))
+list-part-list-if-requires t c κs = rw (c .before .before .before .before .list-side .kept .1 .1 .1 .1 .1 .1 .0) (coerced-entry (c .before .before .before .before .list-side .ensures) (c .before .possible-symbol-if .ensures) (as-part Coerced (c .before .before .before .before .before .before .enum-told .given .1) (c .before .before .before .before .before .before .before .before .before .before .before .pre .1)))
 
 list-part-enum-told-2 : (t : ℕ) → list-part-lts.Need-enum-told-2 (list-part-calls t) (list-part-at t) list-part.Post
 list-part-enum-told-2 t c = search needs
@@ -621,8 +597,8 @@ list-part-add-first t c = omega (arith, given-inside (c .before .before .before 
 list-part-sub-below : (t : ℕ) → list-part-lts.Need-sub-below (list-part-calls t) (list-part-at t) list-part.Post
 list-part-sub-below t c = omega (arith, some-depth ((c .before .before .before .before .before .before .before .pre .1) .input))
 
-list-part-list-children-requires-2 : (t : ℕ) → list-part-lts.Need-list-children-requires-2 (list-part-calls t) (list-part-at t) list-part.Post
-list-part-list-children-requires-2 t c κs = (omega (arith, c .before .before .before .before .before .before .before .before .pre .0, c .before .before .before .before .before .before .before .before .pre .1 .input .small, some-depth ((c .before .before .before .before .before .before .before .before .pre .1) .input), key-within _ _ (c .before .before .sub-at .ensures .0) refl _ (c .before .first-size .ensures) (c .before .before .before .before .before .before .before .before .pre .1)), key-given _ _ (c .before .before .sub-at .ensures .0) refl _ (c .before .first-size .ensures) _ (as-part Key (c .before .before .before .enum-told2 .given .1) (c .before .before .before .before .before .before .before .before .pre .1)))
+list-part-list-children-requires : (t : ℕ) → list-part-lts.Need-list-children-requires (list-part-calls t) (list-part-at t) list-part.Post
+list-part-list-children-requires t c κs = (omega (arith, c .before .before .before .before .before .before .before .before .pre .0, c .before .before .before .before .before .before .before .before .pre .1 .input .small, some-depth ((c .before .before .before .before .before .before .before .before .pre .1) .input), key-within _ _ (c .before .before .sub-at .ensures .0) refl _ (c .before .first-size .ensures) (c .before .before .before .before .before .before .before .before .pre .1)), key-given _ _ (c .before .before .sub-at .ensures .0) refl _ (c .before .first-size .ensures) _ (as-part Key (c .before .before .before .enum-told2 .given .1) (c .before .before .before .before .before .before .before .before .pre .1)))
 
 list-part-enum-told-3 : (t : ℕ) → list-part-lts.Need-enum-told-3 (list-part-calls t) (list-part-at t) list-part.Post
 list-part-enum-told-3 t c = search needs
@@ -634,13 +610,13 @@ list-part-same-length : (t : ℕ) → list-part-lts.Need-same-length (list-part-
 list-part-same-length t c = search needs
 
 list-part-returns : (t : ℕ) → list-part-lts.Need-returns (list-part-calls t) (list-part-at t) list-part.Post
-list-part-returns t c = for-part _ (c .before .before .before .before .before .before .before .before .before .enum-told .given .1) (coerced-done (listed-one (c .before .before .before .before .before .before .before .list-children .ensures)) (tells-possible-symbol (c .before .before .before .before .possible-symbol-at .ensures)) (c .before .before .list-if .ensures))
+list-part-returns t c = for-part _ (c .before .before .before .before .before .before .before .before .before .enum-told .given .1) (coerced-done (c .before .before .before .before .before .before .before .list-side .ensures) (c .before .before .before .before .possible-symbol-if .ensures) (c .before .before .list-if .ensures))
 
 list-part-same-length-2 : (t : ℕ) → list-part-lts.Need-same-length-2 (list-part-calls t) (list-part-at t) list-part.Post
 list-part-same-length-2 t c = search needs
 
 list-part-returns-2 : (t : ℕ) → list-part-lts.Need-returns-2 (list-part-calls t) (list-part-at t) list-part.Post
-list-part-returns-2 t c = for-part _ (c .before .before .before .before .before .before .enum-told2 .given .1) (key-done _ _ (c .before .before .before .before .before .sub-at .ensures .0) refl _ (c .before .before .before .before .first-size .ensures) _ (c .before .before .list-children2 .ensures))
+list-part-returns-2 t c = for-part _ (c .before .before .before .before .before .before .enum-told2 .given .1) (key-done _ _ (c .before .before .before .before .before .sub-at .ensures .0) refl _ (c .before .before .before .before .first-size .ensures) _ (c .before .before .list-children .ensures))
 
 list-part-same-length-3 : (t : ℕ) → list-part-lts.Need-same-length-3 (list-part-calls t) (list-part-at t) list-part.Post
 list-part-same-length-3 t c = search needs
@@ -680,6 +656,30 @@ list-parts-same-length t c = c .before .loop .inv .same
 
 list-parts-returns : (t : ℕ) → list-parts-lts.Need-returns (list-parts-calls t) (list-parts-at t) list-parts.Post list-parts-Inv-loop list-parts-μ-loop
 list-parts-returns t c = walk-done (c .before .loop .inv) (c .loop-test .left)
+
+list-side-is-addition-requires : (t : ℕ) → list-side-lts.Need-is-addition-requires (list-side-calls t) (list-side-at t) list-side.Post
+list-side-is-addition-requires t c κs = given-inside (c .before .before .before .pre .1)
+
+list-side-list-addition-requires : (t : ℕ) → list-side-lts.Need-list-addition-requires (list-side-calls t) (list-side-at t) list-side.Post
+list-side-list-addition-requires t c κs = (omega (arith, c .before .before .before .before .before .before .pre .0), sum-told _ (tells-addition (c .before .before .is-addition .ensures)) (c .before .if1 .taken) (c .before .before .before .before .before .before .pre .1))
+
+list-side-same-length : (t : ℕ) → list-side-lts.Need-same-length (list-side-calls t) (list-side-at t) list-side.Post
+list-side-same-length t c = search needs
+
+list-side-returns : (t : ℕ) → list-side-lts.Need-returns (list-side-calls t) (list-side-at t) list-side.Post
+list-side-returns t c = c .before .before .list-addition .ensures
+
+list-side-list-children-requires : (t : ℕ) → list-side-lts.Need-list-children-requires (list-side-calls t) (list-side-at t) list-side.Post
+list-side-list-children-requires t c κs = (omega (arith, c .before .before .before .before .before .before .pre .0), given-one (c .before .before .before .before .before .before .pre .1))
+
+list-side-string-fact-at-requires : (t : ℕ) → list-side-lts.Need-string-fact-at-requires (list-side-calls t) (list-side-at t) list-side.Post
+list-side-string-fact-at-requires t c κs = given-inside (c .before .before .before .before .before .before .before .before .before .pre .1)
+
+list-side-same-length-2 : (t : ℕ) → list-side-lts.Need-same-length-2 (list-side-calls t) (list-side-at t) list-side.Post
+list-side-same-length-2 t c = search needs
+
+list-side-returns-2 : (t : ℕ) → list-side-lts.Need-returns-2 (list-side-calls t) (list-side-at t) list-side.Post
+list-side-returns-2 t c = side-other _ _ (tells-addition (c .before .before .before .before .before .before .is-addition .ensures)) (c .before .before .before .before .before .if1 .left) (tells-string-fact (c .string-fact-at .ensures)) (listed-one (c .before .before .before .list-children .ensures))
 
 list-static-nonempty-static-block-at-requires : (t : ℕ) → list-static-lts.Need-nonempty-static-block-at-requires (list-static-calls t) (list-static-at t) list-static.Post
 list-static-nonempty-static-block-at-requires t c κs = given-inside (c .before .before .before .pre .1)
@@ -729,9 +729,9 @@ list-static-same-length-2 t c = search needs
 list-static-returns-2 : (t : ℕ) → list-static-lts.Need-returns-2 (list-static-calls t) (list-static-at t) list-static.Post
 list-static-returns-2 t c = only-block-done _ _ (tells-static-value (c .before .before .before .before .before .has-static-value-at .ensures)) (c .before .before .before .before .if1 .left) _ (tells-static-block (c .before .before .before .before .before .before .nonempty-static-block-at .ensures)) (c .before .before .list-if2 .ensures)
 
-pub +list-addition+list-arguments+list-arm+list-children+list-class+list-expr+list-left+list-part+list-parts+list-static-spec :
+pub +list-addition+list-arguments+list-arm+list-children+list-class+list-expr+list-part+list-parts+list-side+list-static-spec :
     {M : Type 1} → statement M
-+list-addition+list-arguments+list-arm+list-children+list-class+list-expr+list-left+list-part+list-parts+list-static-spec =
++list-addition+list-arguments+list-arm+list-children+list-class+list-expr+list-part+list-parts+list-side+list-static-spec =
     close
     μ-list-addition
     μ-list-arguments
@@ -739,9 +739,9 @@ pub +list-addition+list-arguments+list-arm+list-children+list-class+list-expr+li
     μ-list-children
     μ-list-class
     μ-list-expr
-    μ-list-left
     μ-list-part
     μ-list-parts
+    μ-list-side
     μ-list-static
     (λ t. list-addition-lts.spec (list-addition-calls t)
     (list-addition-at t)
@@ -749,19 +749,19 @@ pub +list-addition+list-arguments+list-arm+list-children+list-class+list-expr+li
     (list-addition-sub-below t)
     (list-addition-add-subtree-at t)
     (list-addition-subtree-at-requires t)
-    (list-addition-add-list-left t)
-    (list-addition-list-left-requires t)
+    (list-addition-add-list-side t)
+    (list-addition-list-side-requires t)
     (list-addition-add-right t)
     (list-addition-add-right-2 t)
     (list-addition-subtree-at-requires-2 t)
-    (list-addition-list-children-requires t)
-    (list-addition-possible-symbol-at-requires t)
+    (list-addition-list-side-requires-2 t)
+    (list-addition-possible-symbol-if-requires t)
     (list-addition-list-if-requires t)
     (list-addition-same-length t)
     (list-addition-returns t)
     (list-addition-string-fact-at-requires t)
-    (list-addition-add-possible-symbol-at t)
-    (list-addition-possible-symbol-at-requires-2 t)
+    (list-addition-add-possible-symbol-if t)
+    (list-addition-possible-symbol-if-requires-2 t)
     (list-addition-add-list-if t)
     (list-addition-list-if-requires-2 t)
     (list-addition-same-length-2 t)
@@ -877,30 +877,19 @@ pub +list-addition+list-arguments+list-arm+list-children+list-class+list-expr+li
     (list-expr-returns-7 t)
     (list-expr-same-length-7 t)
     (list-expr-returns-8 t))
-    (λ t. list-left-lts.spec (list-left-calls t)
-    (list-left-at t)
-    list-left.Post
-    (list-left-is-addition-requires t)
-    (list-left-list-addition-requires t)
-    (list-left-same-length t)
-    (list-left-returns t)
-    (list-left-list-children-requires t)
-    (list-left-string-fact-at-requires t)
-    (list-left-same-length-2 t)
-    (list-left-returns-2 t))
     (λ t. list-part-lts.spec (list-part-calls t)
     (list-part-at t)
     list-part.Post
     (list-part-enum-told t)
-    (list-part-list-children-requires t)
-    (list-part-possible-symbol-at-requires t)
+    (list-part-list-side-requires t)
+    (list-part-possible-symbol-if-requires t)
     (list-part-list-if-requires t)
     (list-part-enum-told-2 t)
     (list-part-sub-at-requires t)
     (list-part-first-size-requires t)
     (list-part-add-first t)
     (list-part-sub-below t)
-    (list-part-list-children-requires-2 t)
+    (list-part-list-children-requires t)
     (list-part-enum-told-3 t)
     (list-part-list-static-requires t)
     (list-part-same-length t)
@@ -923,6 +912,17 @@ pub +list-addition+list-arguments+list-arm+list-children+list-class+list-expr+li
     (list-parts-loop-again t)
     (list-parts-same-length t)
     (list-parts-returns t))
+    (λ t. list-side-lts.spec (list-side-calls t)
+    (list-side-at t)
+    list-side.Post
+    (list-side-is-addition-requires t)
+    (list-side-list-addition-requires t)
+    (list-side-same-length t)
+    (list-side-returns t)
+    (list-side-list-children-requires t)
+    (list-side-string-fact-at-requires t)
+    (list-side-same-length-2 t)
+    (list-side-returns-2 t))
     λ t. list-static-lts.spec (list-static-calls t)
     (list-static-at t)
     list-static.Post
