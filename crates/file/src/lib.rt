@@ -1,4 +1,4 @@
-// The check of a tree file: refusals 1 to 8, in order.
+// The check of a tree file: refusals 1 to 8, in order, and 5 again after 7.
 mod children;
 mod depth;
 mod record;

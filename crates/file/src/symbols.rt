@@ -8,7 +8,8 @@ ghost use Rattle.tree.specs.Fields.{headAt};
 ghost use Rattle.tree.specs.Refusal.{additionsOk};
 ghost use Rattle.file.specs.Symbols.{goesOn, partOkAt, GivenPart, Whole};
 
-// Whether the node at record i is an addition that is said to be a symbol, or is on the left of one, as `symbol` says of it.
+// Whether the node at record i is an addition that is said to be a symbol, or is on the left of one, as `symbol` says of it. Choices
+// rather than a test by kind, which would often be mispredicted.
 fn goes_on(src: &[u8], i: usize, symbol: bool) -> bool
     requires { ⌜ i + 1 ≤ recordsIn (now src) ⌝ }
     ensures { λ r. ⌜ r ≡ goesOn symbol (headAt (now (src .entry)) i) ⌝ }

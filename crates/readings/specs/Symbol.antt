@@ -61,21 +61,21 @@ record SidesOf (s : List ℕ) (p : ℕ) (t : Tree) : Type 0 where
   right : Node s (p + 1 + subtreeAt s (p + 1)) r
 
 -- Of a node with no such two its string fact is asked.
-lone : (h : Head) (f : Forest) → (isAddition (record { head = h; kids = f }) && eqb (count f) 2) ≡ false → isString (record { head = h; kids = f }) ≡ stringFact (record { head = h; kids = f })
+lone : (t : Tree) → (isAddition t && eqb (count (t .kids)) 2) ≡ false → isString t ≡ stringFact t
 unfolding isString isStringRule
-lone h f e = recur-is isStringRule (record { head = h; kids = f }) ∙ go (isAddition (record { head = h; kids = f })) f e
+lone t e = recur-is isStringRule t ∙ go (isAddition t) (t .kids) e
   where
-    fact : (b : Bool) (x : Bool) → cond b x x ≡ x
-    fact true x = refl
-    fact false x = refl
+    either : (b : Bool) → cond b (stringFact t) (stringFact t) ≡ stringFact t
+    either true = refl
+    either false = refl
 
-    go : (b : Bool) (g : Forest) → (b && eqb (count g) 2) ≡ false
-        → cond b (ofTwo (λ l r. l .result || stringFact (r .tree)) (stringFact (record { head = h; kids = f })) (map (paired isStringRule) (trees g))) (stringFact (record { head = h; kids = f })) ≡ stringFact (record { head = h; kids = f })
-    go b nil e = fact b (stringFact (record { head = h; kids = f }))
-    go b (node x xs nil) e = fact b (stringFact (record { head = h; kids = f }))
+    go : (b : Bool) (f : Forest) → (b && eqb (count f) 2) ≡ false
+        → cond b (ofTwo (λ l r. l .result || stringFact (r .tree)) (stringFact t) (map (paired isStringRule) (trees f))) (stringFact t) ≡ stringFact t
+    go b nil e = either b
+    go b (node x xs nil) e = either b
     go true (node x xs (node y ys nil)) e = absurd (true≢false e)
     go false (node x xs (node y ys nil)) e = refl
-    go b (node x xs (node y ys (node z zs rest))) e = fact b (stringFact (record { head = h; kids = f }))
+    go b (node x xs (node y ys (node z zs rest))) e = either b
 
 module _ {s : List ℕ} {p : ℕ} where
   -- What the record says of its sides is so of the tree that stands there.
@@ -117,7 +117,7 @@ string-start n = record { node = n; whole = λ r p. p }
 
 module _ {s : List ℕ} {at p : ℕ} (w : StringWalk s at p) (b : Bool) (e : b ≡ (isAddition (nodeAt s p) && eqb (childrenAt s p) 2)) where
   pub string-last : b ≡ false → (r : Bool) → Tells s p stringFact r → Tells s at isString r
-  string-last v r q = w .whole r (record { by = λ t n. q .by t n ∙ sym (lone (t .head) (t .kids) (sym (has-sides t n) ∙ sym e ∙ v)) })
+  string-last v r q = w .whole r (record { by = λ t n. q .by t n ∙ sym (lone t (sym (has-sides t n) ∙ sym e ∙ v)) })
 
   module _ (v : b ≡ true) where
     sides : (t : Tree) → Node s p t → SidesOf s p t

@@ -10,6 +10,7 @@ ghost use Rattle.rules.specs.Facts.{possibleSymbol};
 ghost use Rattle.readings.specs.Node.{SomeNode, Tells};
 ghost use Rattle.readings.specs.Symbol.{possibleSymbolIf};
 
+// Whether it is an addition, of two sides.
 fn has_sides(src: &[u8], at: usize) -> bool
     requires { ⌜ at + 1 ≤ recordsIn (now src) ⌝ }
     ensures { λ r. ⌜ r ≡ (isAddition (nodeAt (now (src .entry)) at) && eqb (childrenAt (now (src .entry)) at) 2) ⌝ }
@@ -36,7 +37,7 @@ fn is_string_at(src: &[u8], at: usize) -> bool
     fields::string_fact_at(src, p)
 }
 
-// The same of the node at record i, where it is known whether it is a string.
+// Whether the node at record i is a possible symbol, where it is known whether it is a string.
 pub fn possible_symbol_if(src: &[u8], i: usize, string: bool) -> bool
     requires { ⌜ i + 1 ≤ recordsIn (now src) ⌝ }
     ensures { λ r. ⌜ r ≡ possibleSymbolIf string (headAt (now (src .entry)) i) ⌝ }

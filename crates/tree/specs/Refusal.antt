@@ -1,4 +1,4 @@
--- Refusals 1 to 8 of a list of bytes, in 01's order: each number is tested over all records before the next.
+-- Refusals 1 to 8 of a list of bytes, in 01's order: each number is tested over all records before the next. 02, N9, tests 5 again after 7.
 use mathlib.Core.Bool.{Bool, true, false, cond, _&&_}
 use mathlib.Core.List.{List}
 use Prim.Native.Nat.{ℕ, zero, suc, _+_}
