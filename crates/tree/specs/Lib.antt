@@ -15,3 +15,4 @@ pub mod Stands
 pub mod Encoding
 pub mod Accepted
 pub mod Walk
+pub mod Rows
