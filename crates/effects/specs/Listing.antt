@@ -1,5 +1,5 @@
 -- What the functions of the listing are given and what they write.
-use mathlib.Core.Path.{_≡_, ap, _∙_}
+use mathlib.Core.Path.{_≡_}
 use mathlib.Core.Bool.{Bool}
 use mathlib.Core.List.{List, _++_, append-nil}
 use Prim.Native.Nat.{ℕ, _+_, _<_}
@@ -12,7 +12,7 @@ use Rattle.rules.specs.Lists.{concatMap}
 use Rattle.rules.specs.Settings.{Settings}
 use Rattle.rules.specs.Facts.{possibleSymbol}
 use Rattle.rules.specs.Effects.{evaluate, effects, coercion}
-use Rattle.readings.specs.Symbol.{possibleSymbolIf, possible-if}
+use Rattle.readings.specs.Symbol.{possibleSymbolIf, possible-told}
 use Rattle.readings.specs.Input.{Input}
 use Rattle.effects.specs.declared.listing.Part.{Part}
 use Rattle.effects.specs.declared.listing.Part.the-variants.{Coerced, Key, Static}
@@ -57,7 +57,7 @@ pub record ListedSide (s : List ℕ) (at size depth : ℕ) (st : Settings) (old 
 
 pub side-symbol : {s : List ℕ} {at size depth : ℕ} {st : Settings} {old new : List ℕ} {pos next : ℕ} {string when : Bool} → ListedSide s at size depth st old new pos next string
     → when ≡ possibleSymbolIf string (headAt s at) → (t : Tree) → Input s at size depth (one t) → when ≡ possibleSymbol t
-side-symbol {string = string} a e t i = e ∙ ap (possibleSymbolIf string) (i .holds .stands .0) ∙ ap (λ b. possibleSymbolIf b (t .head)) (a .is t i) ∙ possible-if t
+side-symbol a e t i = possible-told t (i .holds .stands .0) (a .is t i) e
 
 -- A tree as a list of one.
 module _ {s : List ℕ} {at size depth : ℕ} {st : Settings} {part : Listing} {pos : ℕ} where

@@ -1,6 +1,6 @@
 -- The operation: from the check's answer to the list.
 use mathlib.Core.Path.{_≡_, refl, sym, ap, _∙_}
-use mathlib.Core.Bool.{true, false, _&&_}
+use mathlib.Core.Bool.{true, false}
 use mathlib.Core.List.{List}
 use Prim.Native.Nat.{ℕ, zero, suc, _*_, _<_, _≤_}
 use native.Mathlib.Omega.{arith}
@@ -10,11 +10,10 @@ use lib.ListN.{length}
 use borrow.Author.Tests.{lt-ltb, le-ltb}
 use Rattle.stated.specs.Wrote.{wrote-as, wrote-front}
 use Rattle.tree.specs.Tree.{Tree, one, size}
-use Rattle.tree.specs.Below.{and-both, and-left, and-right}
-use Rattle.tree.specs.Children.{nodeOk, formed, wellFormed}
 use Rattle.tree.specs.Fields.{settingsOf, countOf}
 use Rattle.tree.specs.Refusal.{listEffectsLimits, refusal, treeOf}
 use Rattle.tree.specs.Encoding.{Bytes}
+use Rattle.tree.specs.Stands.{formed-one}
 use Rattle.tree.specs.Accepted.{passed, counted-parts, counted-room, Accepted, accepted}
 use Rattle.file.specs.Answer as check
 use Rattle.rules.specs.Effects.{effects}
@@ -23,7 +22,6 @@ use Rattle.readings.specs.Node.{settingsGiven}
 use Rattle.effects.specs.Listing.{InOrder, GivenTree, ListedTree}
 use Rattle.effects.specs.Answer.{number, effectListGiven, AnswersGiven}
 use Rattle.effects.specs.declared.Listed.the-variants.{Refused, Count}
-use Rattle.tree.specs.Kind as kind
 use Rattle.readings.specs.Input.{Input}
 
 pub refused-file : (s : List ℕ) (n : ℕ) {places old : List ℕ} → check.refusedBy n ≡ check.checked listEffectsLimits s → AnswersGiven places s old old (Refused n)
@@ -61,17 +59,11 @@ module _ (s : List ℕ) (st n : ℕ) (e : check.acceptedWith st n ≡ check.chec
     t : Tree
     t = treeOf s
 
-    formed-root : formed (one t) ≡ true
-    unfolding t wellFormed formed
-    formed-root =
-        let w = and-right (kind.isExpression (treeOf s .head .kind)) (nodeOk (treeOf s .head) (treeOf s .kids) && formed (treeOf s .kids)) (A .permitted .well) in
-        and-both (and-left (nodeOk (treeOf s .head) (treeOf s .kids)) (formed (treeOf s .kids)) w) (and-both (and-right (nodeOk (treeOf s .head) (treeOf s .kids)) (formed (treeOf s .kids)) w) refl)
-
     root-input : Input s 0 n 65 (one t)
     unfolding t
     root-input = record {
       holds = record { stands = A .stands; sized = omega (arith, is-count, A .sized) };
-      ok = formed-root;
+      ok = formed-one (treeOf s) (A .permitted .well);
       low = omega (arith, A .permitted .low);
       inside = omega (arith, is-count, counted-room (counted-parts (listEffectsLimits .records) s (passed listEffectsLimits s is-zero .counted)));
       small = omega (arith, is-count, A .sized, A .permitted .few);

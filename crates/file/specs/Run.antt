@@ -1,17 +1,16 @@
 -- The check, test by test: which number it comes to, and the tree once the shape has passed.
-use mathlib.Core.Path.{_≡_, refl, sym}
-use mathlib.Core.Bool.{Bool, true, false, _&&_}
+use mathlib.Core.Path.{_≡_, sym}
+use mathlib.Core.Bool.{Bool, true, false}
 use mathlib.Core.List.{List}
 use Prim.Native.Nat.{ℕ, _<_, _≤_}
 use native.Mathlib.Omega.{arith}
 use Rattle.tree.specs.Tree.{one, levels, depth}
-use Rattle.tree.specs.Below.{allBelow, and-both, and-left, and-right}
+use Rattle.tree.specs.Below.{allBelow}
 use Rattle.tree.specs.Record.{recordOk, taken}
-use Rattle.tree.specs.Children.{nodeOk, formed, wellFormed}
-use Rattle.tree.specs.Kind as kind
 use Rattle.tree.specs.Room.{recordsIn}
 use Rattle.tree.specs.Fields.{settingsOf, countOf, headAt}
 use Rattle.tree.specs.Refusal.{Limits, markOk, versionOk, settingsOk, countOk, recordsOk, allTaken, shapeOk, treeOf, additionsOk, depthOk, refusal}
+use Rattle.tree.specs.Stands.{formed-one}
 use Rattle.tree.specs.Accepted.{Counted, counted-parts, counted-room, Rooted, rooted}
 use Rattle.file.specs.Answer.{refusedBy, acceptedWith, statedOf, checked}
 use Rattle.tree.specs.Walk.{Holds, Held}
@@ -90,12 +89,10 @@ module _ {limits : Limits} {s : List ℕ} {n : ℕ} (h : Headed limits s n) wher
         holds = record { stands = root .stands; sized = omega (arith, h .isN, root .sized) }
 
         pub whole : Whole s n
-        unfolding wellFormed formed
         whole = record {
           inside = headed-inside;
           stands = root .stands;
-          well = let t = treeOf s in let w = and-right (kind.isExpression (t .head .kind)) (nodeOk (t .head) (t .kids) && formed (t .kids)) (root .well) in
-              and-both (and-left (nodeOk (t .head) (t .kids)) (formed (t .kids)) w) (and-both (and-right (nodeOk (t .head) (t .kids)) (formed (t .kids)) w) refl);
+          well = formed-one (treeOf s) (root .well);
           sized = omega (arith, h .isN, root .sized);
         }
 

@@ -20,12 +20,16 @@ use Rattle.readings.specs.Node.{Node, SomeNode, Tells}
 unfoldable pub possibleSymbolIf : Bool → Head → Bool
 possibleSymbolIf string h = not ((neverSymbolAlone h || (isAddition (alone h) && string)) || eqb (symbolPair (h .facts)) 1)
 
-pub possible-if : (t : Tree) → possibleSymbolIf (isString t) (t .head) ≡ possibleSymbol t
+possible-if : (t : Tree) → possibleSymbolIf (isString t) (t .head) ≡ possibleSymbol t
 unfolding possibleSymbolIf possibleSymbol neverSymbol isStringAddition isAddition
 possible-if t = refl
 
+-- Of a record with the tree's head, and of a string as the tree is one.
+pub possible-told : {string r : Bool} {h : Head} (t : Tree) → h ≡ t .head → string ≡ isString t → r ≡ possibleSymbolIf string h → r ≡ possibleSymbol t
+possible-told t eh es e = e ∙ ap₂ possibleSymbolIf es eh ∙ possible-if t
+
 pub tells-possible : {s : List ℕ} {i : ℕ} (string r : Bool) → Tells s i isString string → r ≡ possibleSymbolIf string (headAt s i) → Tells s i possibleSymbol r
-tells-possible string r p e = record { by = λ t n. e ∙ ap (possibleSymbolIf string) (n .stands .0) ∙ ap (λ b. possibleSymbolIf b (t .head)) (p .by t n) ∙ possible-if t }
+tells-possible string r p e = record { by = λ t n. possible-told t (n .stands .0) (p .by t n) e }
 
 -- The tests of a record of head h, whose facts are f.
 module _ (string : Bool) (h : Head) (f : ℕ) (ef : f ≡ h .facts) where

@@ -1,6 +1,6 @@
 -- The operation: from the check's answer to the rewritten file.
 use mathlib.Core.Path.{_≡_, refl, sym, ap, subst, _∙_}
-use mathlib.Core.Bool.{Bool, true, _&&_}
+use mathlib.Core.Bool.{Bool, true}
 use mathlib.Core.List.{List, [], _∷_, _++_}
 use mathlib.Core.Logic.{⊎-elim}
 use Prim.Native.Nat.{ℕ, zero, suc, _+_, _*_, _-_, _<_, _≤_}
@@ -11,16 +11,15 @@ use lib.Seq.{ext-getD, getD-append-add, getD-drop}
 use borrow.Author.Tests.{lt-ltb, le-ltb}
 use Rattle.le.specs.Le.{u16At}
 use Rattle.tree.specs.Tree.{Tree, forest, one, records, size}
-use Rattle.tree.specs.Below.{and-both, and-left, and-right, lt-or-le}
-use Rattle.tree.specs.Children.{nodeOk, formed, wellFormed}
+use Rattle.tree.specs.Below.{lt-or-le}
 use Rattle.tree.specs.Layout.{headerBytes, start}
 use Rattle.tree.specs.Room.{recordsIn, start-first, start-small, start-le, has-room}
 use Rattle.tree.specs.Fields.{settingsOf, countOf}
 use Rattle.tree.specs.File.{bytes, header, fileBytes}
 use Rattle.tree.specs.Refusal.{reduceLimits, listEffectsLimits, refusal, treeOf, markOk, versionOk}
 use Rattle.tree.specs.Encoding.{Bytes, bytes-stand, length-file}
+use Rattle.tree.specs.Stands.{formed-one}
 use Rattle.tree.specs.Accepted.{passed, Counted, counted-parts, counted-room, mark-long, mark-copied, Accepted, accepted, FileOf, file-of, header-is}
-use Rattle.tree.specs.Kind as kind
 use Rattle.file.specs.Answer as check
 use Rattle.rules.specs.Reads.{Premise}
 use Rattle.rules.specs.Reduce.{reduce}
@@ -169,16 +168,10 @@ module _ {s : List ℕ} {count settings : ℕ} {old : List ℕ} (g : GivenFile s
   unfolding number
   no-number = rw (g .accepted-is, le-ltb (length old) (leastOutput (countOf s)) (omega (arith, g .fits, ap leastOutput (g .count-is))))
 
-  formed-root : formed (one (treeOf s)) ≡ true
-  unfolding wellFormed formed
-  formed-root =
-      let w = and-right (kind.isExpression (treeOf s .head .kind)) (nodeOk (treeOf s .head) (treeOf s .kids) && formed (treeOf s .kids)) (file .permitted .well) in
-      and-both (and-left (nodeOk (treeOf s .head) (treeOf s .kids)) (formed (treeOf s .kids)) w) (and-both (and-right (nodeOk (treeOf s .head) (treeOf s .kids)) (formed (treeOf s .kids)) w) refl)
-
   root-input : Input s 0 count 64 (one (treeOf s))
   root-input = record {
     holds = record { stands = file .stands; sized = omega (arith, g .count-is, file .sized) };
-    ok = formed-root;
+    ok = formed-one (treeOf s) (file .permitted .well);
     low = omega (arith, file .permitted .low);
     inside = omega (arith, g .count-is, counted-room counted);
     small = omega (arith, count-bounds);

@@ -20,7 +20,7 @@ use Rattle.tree.specs.Fields.{versionOf, settingsOf, countOf, headAt, su
 use Rattle.tree.specs.Layout.{headerBytes, start}
 use Rattle.tree.specs.Room.{recordsIn, start-first, start-le, has-room}
 use Rattle.tree.specs.Refusal.{Limits, markOk, versionOk, settingsOk, countOk, recordsOk, allTaken, shapeAt, shapeOk, decode, treeOf, additionsOk, depthOk, unless, refusal}
-use Rattle.tree.specs.Stands.{Stands, Tested, decoded-root, decode-stands, tested-of, heads-stand, heads-at}
+use Rattle.tree.specs.Stands.{Stands, Tested, decoded-root, decode-stands, tested-of, heads-stand, heads-at, formed-one}
 use Rattle.tree.specs.Encoding.{Bytes, length-file, drop-next, drop-u16, bytes-stand, encodable-stand, stand-bytes, file-bytes}
 use Rattle.tree.specs.Kind as kind
 
@@ -316,14 +316,8 @@ module _ (settings : ℕ) (t : Tree) where
     unfolding wellFormed
     expression-is = and-left (kind.isExpression (t .head .kind)) (nodeOk (t .head) (t .kids) && formed (t .kids)) well
 
-    formed-is : formed (one t) ≡ true
-    unfolding wellFormed formed
-    formed-is =
-        let w = and-right (kind.isExpression (t .head .kind)) (nodeOk (t .head) (t .kids) && formed (t .kids)) well in
-        and-both (and-left (nodeOk (t .head) (t .kids)) (formed (t .kids)) w) (and-both (and-right (nodeOk (t .head) (t .kids)) (formed (t .kids)) w) refl)
-
     tested : (i : ℕ) → i < countOf s → Tested s (countOf s) i
-    tested i l = let n = count-is in tested-of s (countOf s) 0 (one t) stands-is formed-is (omega (arith, n)) i (omega arith) (omega (arith, n))
+    tested i l = let n = count-is in tested-of s (countOf s) 0 (one t) stands-is (formed-one t well) (omega (arith, n)) i (omega arith) (omega (arith, n))
 
     records-are : recordsOk s ≡ true
     unfolding recordsOk

@@ -8,12 +8,12 @@ use native.Mathlib.Nat.{eq-or-lt-of-le}
 use native.Mathlib.Omega.{arith}
 use lib.Dec.{eqb, leb}
 use borrow.Author.Tests.{eqb-true, le-leb, leb-true, lt-ltb, le-ltb, eq-eqb}
-use Rattle.tree.specs.Tree.{Head, Forest, nil, node, alone, count, records, allNodes, allHeads}
+use Rattle.tree.specs.Tree.{Head, Forest, nil, node, alone, count, records, allNodes, allHeads, Tree, one}
 use Rattle.tree.specs.Below.{and-both, and-left, and-right, lt-or-le}
 use Rattle.tree.specs.Record.{recordOk, included}
 use Rattle.tree.specs.Symbol.{isAddition}
 use Rattle.tree.specs.Kind as kind
-use Rattle.tree.specs.Children.{childCountOk, mayStand, childrenStand, nodeOk, formed}
+use Rattle.tree.specs.Children.{childCountOk, mayStand, childrenStand, nodeOk, formed, wellFormed}
 use Rattle.tree.specs.Fields.{headAt, childrenAt, subtreeAt}
 use Rattle.tree.specs.Refusal.{childrenEnd, shapeAt, decode}
 
@@ -50,6 +50,13 @@ node-parts h cs w =
 node-whole : {h : Head} {cs : Forest} → NodeOk h cs → nodeOk h cs ≡ true
 unfolding nodeOk
 node-whole o = and-both (o .record-ok) (and-both (o .is-included) (and-both (o .counted) (o .stand)))
+
+-- Each node of a well-formed tree passes its tests.
+pub formed-one : (t : Tree) → wellFormed t ≡ true → formed (one t) ≡ true
+unfolding wellFormed formed
+formed-one t well =
+    let w = and-right (kind.isExpression (t .head .kind)) (nodeOk (t .head) (t .kids) && formed (t .kids)) well in
+    and-both (and-left (nodeOk (t .head) (t .kids)) (formed (t .kids)) w) (and-both (and-right (nodeOk (t .head) (t .kids)) (formed (t .kids)) w) refl)
 
 -- An addition has two sides.
 pub two-sides : (h : Head) (cs : Forest) → isAddition (alone h) ≡ true → nodeOk h cs ≡ true → count cs ≡ 2
