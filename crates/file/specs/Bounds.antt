@@ -2,7 +2,7 @@
 use mathlib.Core.Path.{_≡_, refl, sym, _∙_}
 use mathlib.Core.Bool.{Bool, true, false, cond, not, _&&_, _||_, true≢false, and-true, and-comm}
 use mathlib.Core.Logic.{⊎-elim}
-use Prim.Native.Nat.{ℕ, _*_, _/_, _%_, _^_, _<_, _≤_}
+use Prim.Native.Nat.{ℕ, _+_, _*_, _/_, _%_, _^_, _<_, _≤_}
 use native.Mathlib.Nat.{eq-or-lt-of-le}
 use native.Mathlib.Omega.{arith}
 use lib.Dec.{eqb, leb}
@@ -12,7 +12,7 @@ use Rattle.tree.specs.Below.{allBelow, all-at, and-fails, lt-or-le}
 use Rattle.tree.specs.Record.{subOk}
 use Rattle.tree.specs.Children.{childCountOk}
 use Rattle.tree.specs.Kind as kind
-use Rattle.file.specs.Facts.{agree, agree-same}
+use Rattle.file.specs.Facts.{agree, agree-same, at-most-one}
 
 -- A number is another if it is neither more nor less.
 exactly : (n m : ℕ) → eqb n m ≡ (leb n m && leb m n)
@@ -24,6 +24,9 @@ exactly n m =
 -- The subs of a kind but the class element: a least and a most number.
 abbrev pub leastSub : ℕ → ℕ
 leastSub k = cond (eqb k kind.unary || eqb k kind.binary) 1 0
+
+pub least-sub-low : (k : ℕ) → leastSub k ≤ 1
+least-sub-low k = at-most-one (eqb k kind.unary || eqb k kind.binary)
 
 abbrev pub mostSub : ℕ → ℕ
 mostSub k =
@@ -138,13 +141,13 @@ pub most-children-below : (k : ℕ) → k < 32 → 0b11_11_11_11_11_11_11_11_11_
 unfolding equals allBelow
 most-children-below = equal-below (λ k. 0b11_11_11_11_11_11_11_11_11_11_11_10_11_11_11_11_10_01_11_11_11_11_01_00_11_00_00_00_00_00_00_11 / 2 ^ (2 * k) % 4) mostChildren 32 refl
 
-pub least-sub-below : (k : ℕ) → k < 21 → 0b1100_0000_0000_0000 / 2 ^ k % 2 ≡ leastSub k
+pub least-sub-below : (k : ℕ) → k < 32 → 0b1100_0000_0000_0000 / 2 ^ k % 2 ≡ leastSub k
 unfolding equals allBelow
-least-sub-below = equal-below (λ k. 0b1100_0000_0000_0000 / 2 ^ k % 2) leastSub 21 refl
+least-sub-below = equal-below (λ k. 0b1100_0000_0000_0000 / 2 ^ k % 2) leastSub 32 refl
 
-pub most-sub-below : (k : ℕ) → k < 21 → 0o203_003_400_100_000_000_000 / 2 ^ (3 * k) % 8 ≡ mostSub k
+pub most-sub-below : (k : ℕ) → k < 32 → leastSub k + 0b10_00_11_00_00_10_11_00_00_01_00_00_00_00_00_00_00_00_00_00_00 / 2 ^ (2 * k) % 4 ≡ mostSub k
 unfolding equals allBelow
-most-sub-below = equal-below (λ k. 0o203_003_400_100_000_000_000 / 2 ^ (3 * k) % 8) mostSub 21 refl
+most-sub-below = equal-below (λ k. leastSub k + 0b10_00_11_00_00_10_11_00_00_01_00_00_00_00_00_00_00_00_00_00_00 / 2 ^ (2 * k) % 4) mostSub 32 refl
 
 expression-bit : ℕ → Bool
 expression-bit k = agree (eqb (0b1111_1111_1111_0111_1111_0100_1111_1111 / 2 ^ k % 2) 1) (kind.isExpression k)

@@ -1,14 +1,13 @@
 -- Each permitted set of fact bits is one less than a power of two, so a byte has no other bit exactly if it is at most that number.
 use mathlib.Core.Path.{_≡_, refl, sym, ap, _∙_}
-use mathlib.Core.Bool.{Bool, true, false, cond, not, _&&_, _||_, and-true}
-use mathlib.Core.List.{List, [], _∷_}
-use Prim.Native.Nat.{ℕ, _/_, _%_, _^_, _<_, _≤_}
+use mathlib.Core.Bool.{Bool, true, false, cond, not, _&&_, _||_, true≢false, and-true}
+use mathlib.Core.Logic.{⊎-elim}
+use Prim.Native.Nat.{ℕ, _+_, _/_, _%_, _^_, _<_, _≤_}
 use native.Mathlib.Omega.{arith}
-use lib.ListN.{getD}
 use lib.Dec.{eqb, leb}
-use borrow.Author.Tests.{le-leb, lt-leb, ne-eqb, eqb-true}
+use borrow.Author.Tests.{le-leb, lt-leb, eq-eqb, ne-eqb, eqb-true}
 use Rattle.tree.specs.Tree.{Head}
-use Rattle.tree.specs.Below.{allBelow, all-at, and-fails}
+use Rattle.tree.specs.Below.{allBelow, all-at, and-left, and-fails, lt-or-le}
 use Rattle.tree.specs.Record.{symbolYes, allowedFacts, bitsWithin, pairsOk, literalOk, isVoidNotOrTypeof, isComparison, neverSymbolAlone, symbolOk, factsOk}
 use Rattle.tree.specs.Kind as kind
 
@@ -20,16 +19,22 @@ agree-same true b e = sym e
 agree-same false true e = e
 agree-same false false e = refl
 
--- The table of permitted fact bits, as the code has it, is the rule at every kind: one test, computed over the whole table.
-abbrev pub allowedTable : List ℕ
-allowedTable = 31 ∷ 31 ∷ 31 ∷ 31 ∷ 31 ∷ 31 ∷ 31 ∷ 31 ∷ 0 ∷ 1 ∷ 31 ∷ 0 ∷ 31 ∷ 31 ∷ 31 ∷ 31 ∷ 255 ∷ 127 ∷ 31 ∷ 0 ∷ 31 ∷ 31 ∷ 31 ∷ []
+pub at-most-one : (b : Bool) → cond b 1 0 ≤ 1
+at-most-one true = omega arith
+at-most-one false = omega arith
 
-allowed-same : ℕ → Bool
-allowed-same k = eqb (getD allowedTable k 0) (allowedFacts k)
-
-pub allowed-at : (k : ℕ) → k < 23 → getD allowedTable k 0 ≡ allowedFacts k
-unfolding allowed-same allBelow allowedFacts
-allowed-at k l = eqb-true (getD allowedTable k 0) (allowedFacts k) (all-at allowed-same 23 refl k l)
+-- The permitted fact bits as the code picks them: kinds that have none are asked for one by one.
+pub allowed-is : (k : ℕ)
+    → cond (eqb k kind.elision) 0 (cond (eqb k kind.property) 0 (cond (eqb k kind.element) 0 (cond (eqb k kind.spread) 1 (cond (eqb k kind.call) 255 (cond (eqb k kind.new) 127 31)))))
+    ≡ allowedFacts k
+unfolding allowedFacts
+allowed-is k = none (eqb k kind.elision) (eqb k kind.property) (eqb k kind.element) (cond (eqb k kind.spread) 1 (cond (eqb k kind.call) 255 (cond (eqb k kind.new) 127 31)))
+  where
+    none : (a b c : Bool) (n : ℕ) → cond a 0 (cond b 0 (cond c 0 n)) ≡ cond (a || (b || c)) 0 n
+    none true b c n = refl
+    none false true c n = refl
+    none false false true n = refl
+    none false false false n = refl
 
 -- The number of permitted pairs is the rule at every byte: one test, computed over all of them.
 pairs-same : ℕ → Bool
@@ -49,6 +54,9 @@ never-same k = eqb (0b1101_0000_0000_0000 / 2 ^ k % 2) (neverKind k)
 pub never-at : (k : ℕ) → k < 23 → 0b1101_0000_0000_0000 / 2 ^ k % 2 ≡ neverKind k
 unfolding never-same allBelow
 never-at k l = eqb-true (0b1101_0000_0000_0000 / 2 ^ k % 2) (neverKind k) (all-at never-same 23 refl k l)
+
+pub never-low : (k : ℕ) → neverKind k ≤ 1
+never-low k = at-most-one (eqb k kind.template || (eqb k kind.unary || eqb k kind.binary))
 
 never-kind : (h : Head) → (neverKind (h .kind) ≡ 1 → ⊥) → neverSymbolAlone h ≡ false
 unfolding neverSymbolAlone isVoidNotOrTypeof isComparison
@@ -108,18 +116,26 @@ module _ (h : Head) (k f allowed : ℕ) (ek : k ≡ h .kind) (ef : f ≡ h .fact
         unfolding factsOk literalOk
         facts-rest = rw (within-is, le-leb f allowed o, ← ef, p, ← ek, ne-eqb k kind.literal n)
 
-        pub facts-symbol : cond (eqb (f / 2 % 4) 2) (neverKind k) 0 ≡ 1 → (b : Bool) → b ≡ neverSymbolAlone h → factsOk h ≡ not b
-        unfolding symbolOk symbolYes
-        facts-symbol e b eb = facts-rest ∙ rw (ap (λ (x : ℕ). eqb (x / 2 % 4) 2) (sym ef) ∙ said (eqb (f / 2 % 4) 2) e) (ap not (sym eb))
-          where
-            said : (a : Bool) → cond a (neverKind k) 0 ≡ 1 → a ≡ true
-            said true e = refl
-            said false e = absurd (omega (arith, e))
+        -- 3 is in no pair, so that a sum of 3 is 1 and 2.
+        no-three : f / 2 % 4 ≡ 3 → ⊥
+        unfolding pairsOk
+        no-three e = true≢false (sym (and-left (not (eqb (f / 2 % 4) 3)) _ p) ∙ ap not (eq-eqb (f / 2 % 4) 3 e))
 
-        pub facts-other : (cond (eqb (f / 2 % 4) 2) (neverKind k) 0 ≡ 1 → ⊥) → factsOk h ≡ true
-        unfolding symbolOk symbolYes
-        facts-other e = facts-rest ∙ rw (← ap (λ (x : ℕ). eqb (x / 2 % 4) 2) ef) (go (eqb (f / 2 % 4) 2) e)
+        said : symbolYes h ≡ eqb (f / 2 % 4) 2
+        unfolding symbolYes
+        said = ap (λ (x : ℕ). eqb (x / 2 % 4) 2) (sym ef)
+
+        pub facts-symbol : neverKind k + f / 2 % 4 ≡ 3 → (b : Bool) → b ≡ neverSymbolAlone h → factsOk h ≡ not b
+        unfolding symbolOk
+        facts-symbol e b eb = facts-rest ∙ rw (said, eq-eqb (f / 2 % 4) 2 two) (ap not (sym eb))
           where
-            go : (a : Bool) → (cond a (neverKind k) 0 ≡ 1 → ⊥) → not (a && neverSymbolAlone h) ≡ true
-            go true e = ap not (never-kind h (λ x. e (ap neverKind ek ∙ x)))
-            go false e = refl
+            two : f / 2 % 4 ≡ 2
+            two = let l = never-low k in ⊎-elim (λ (x : f / 2 % 4 < 3). omega arith) (λ (x : 3 ≤ f / 2 % 4). absurd (no-three (omega arith))) (lt-or-le (f / 2 % 4) 3)
+
+        pub facts-other : (neverKind k + f / 2 % 4 ≡ 3 → ⊥) → factsOk h ≡ true
+        unfolding symbolOk
+        facts-other e = facts-rest ∙ rw said (go (eqb (f / 2 % 4) 2) refl)
+          where
+            go : (a : Bool) → eqb (f / 2 % 4) 2 ≡ a → not (a && neverSymbolAlone h) ≡ true
+            go true ea = ap not (never-kind h (λ x. e (rw (ap neverKind ek ∙ x, eqb-true (f / 2 % 4) 2 ea))))
+            go false ea = refl

@@ -7,43 +7,20 @@ ghost use Rattle.tree.specs.Below.{allBelow};
 ghost use Rattle.tree.specs.Room.{recordsIn};
 ghost use Rattle.tree.specs.Fields.{headAt};
 ghost use Rattle.tree.specs.Record.{allowedFacts, pairsOk, factsOk, elementSubOk, subOk, recordOk, taken};
-ghost use Rattle.file.specs.Facts.{allowedTable, neverKind};
+ghost use Rattle.file.specs.Facts.{neverKind};
 ghost use Rattle.file.specs.Bounds.{leastSub, mostSub};
 
-// The permitted fact bits of each kind, by its number: 1 is the flag, 31 the flag and both pairs, 127 these with annotated and
-// listed, and 255 all.
-const ALLOWED_FACTS: [u8; 23] = [
-    31, // 0 no kind
-    31, // 1 string literal
-    31, // 2 identifier
-    31, // 3 function
-    31, // 4 arrow
-    31, // 5 other leaf
-    31, // 6 this
-    31, // 7 array
-    0, // 8 elision
-    1, // 9 spread
-    31, // 10 object
-    0, // 11 property
-    31, // 12 template
-    31, // 13 sequence
-    31, // 14 unary
-    31, // 15 binary
-    255, // 16 call
-    127, // 17 new
-    31, // 18 class
-    0, // 19 class element
-    31, // 20 logical
-    31, // 21 conditional
-    31, // 22 assignment
-];
-
-// The table is lent from function to function: where a constant array is named, it is written to the stack.
-fn allowed_facts(table: &[u8; 23], kind: usize) -> u8
-    requires { ⌜ (kind < 23) × (now table ≡ allowedTable) ⌝ }
+// The permitted fact bits of a kind: 1 is the flag, 31 the flag and both pairs, 127 these with annotated and listed, and 255 all. Picks
+// in place of tests by kind, which would often be mispredicted.
+fn allowed_facts(kind: usize) -> usize
     ensures { λ r. ⌜ r ≡ allowedFacts kind ⌝ }
 {
-    table[kind]
+    let new = pick(kind == kind::NEW, 127, 31);
+    let call = pick(kind == kind::CALL, 255, new);
+    let spread = pick(kind == kind::SPREAD, 1, call);
+    let element = pick(kind == kind::ELEMENT, 0, spread);
+    let property = pick(kind == kind::PROPERTY, 0, element);
+    pick(kind == kind::ELISION, 0, property)
 }
 
 // Whether bits 1 to 4 of the facts are permitted, a bit for each number: the string pair times 4 and the symbol pair. The bits of
@@ -67,22 +44,22 @@ fn never_kind(kind: usize) -> usize
     (NEVER_SYMBOL >> kind) % 2
 }
 
-fn facts_ok(src: &[u8], i: usize, table: &[u8; 23]) -> bool
-    requires { ⌜ (i + 1 ≤ recordsIn (now src)) × (headAt (now src) i .kind < 23) × (now table ≡ allowedTable) ⌝ }
+fn facts_ok(src: &[u8], i: usize) -> bool
+    requires { ⌜ (i + 1 ≤ recordsIn (now src)) × (headAt (now src) i .kind < 23) ⌝ }
     ensures { λ r. ⌜ r ≡ factsOk (headAt (now (src .entry)) i) ⌝ }
 {
     let kind = fields::kind_at(src, i);
     let facts = fields::facts_at(src, i);
-    // every entry is one less than a power of two, so no more than it means no other bit
-    if (allowed_facts(table, kind) as usize) < facts {
+    // allowed facts are one less than a power of two, so no more than they means no other bit
+    if allowed_facts(kind) < facts {
         return false;
     }
     if pairs_ok(facts) {
         if kind == kind::LITERAL {
             return facts == 18;
         }
-        // most records that are said to be symbols are of other kinds, so that this branch is seldom taken
-        if pick(facts / 2 % 4 == 2, never_kind(kind), 0) == 1 {
+        // 1 for such a kind and 2 for a symbol: a sum in place of a test by either, which would often be mispredicted
+        if never_kind(kind) + facts / 2 % 4 == 3 {
             return !fields::never_symbol_alone(src, i);
         }
         return true;
@@ -121,15 +98,15 @@ fn element_sub_ok(sub: usize) -> bool
     true
 }
 
-// A bit for each kind, and three bits for each: the least sub, and the most, but for class elements.
+// A bit for each kind, and two bits for each: the least sub, and how many more there are, but for class elements.
 const LEAST_SUB: usize = 0b1100_0000_0000_0000;
 
-const MOST_SUB: usize = 0o203_003_400_100_000_000_000;
+const MORE_SUBS: usize = 0b10_00_11_00_00_10_11_00_00_01_00_00_00_00_00_00_00_00_00_00_00;
 
 fn least_sub(kind: usize) -> usize
     ensures { λ r. ⌜ r ≡ leastSub kind ⌝ }
 {
-    if 20 < kind {
+    if 31 < kind {
         return 0;
     }
     (LEAST_SUB >> kind) % 2
@@ -138,10 +115,10 @@ fn least_sub(kind: usize) -> usize
 fn most_sub(kind: usize) -> usize
     ensures { λ r. ⌜ r ≡ mostSub kind ⌝ }
 {
-    if 20 < kind {
+    if 31 < kind {
         return 0;
     }
-    (MOST_SUB >> (3 * kind)) % 8
+    least_sub(kind) + (MORE_SUBS >> (2 * kind)) % 4
 }
 
 // Two bounds by kind rather than a test by kind, which would often be mispredicted.
@@ -160,8 +137,8 @@ fn sub_ok(src: &[u8], i: usize) -> bool
     least_sub(kind) <= sub
 }
 
-fn record_ok(src: &[u8], i: usize, table: &[u8; 23]) -> bool
-    requires { ⌜ (i + 1 ≤ recordsIn (now src)) × (now table ≡ allowedTable) ⌝ }
+fn record_ok(src: &[u8], i: usize) -> bool
+    requires { ⌜ i + 1 ≤ recordsIn (now src) ⌝ }
     ensures { λ r. ⌜ r ≡ recordOk (headAt (now (src .entry)) i) ⌝ }
 {
     let kind = fields::kind_at(src, i);
@@ -171,7 +148,7 @@ fn record_ok(src: &[u8], i: usize, table: &[u8; 23]) -> bool
     if kind::ASSIGNMENT < kind {
         return false;
     }
-    if facts_ok(src, i, table) {
+    if facts_ok(src, i) {
         if sub_ok(src, i) {
             return fields::reserved_at(src, i) == 0;
         }
@@ -202,10 +179,9 @@ pub fn records_ok(src: &[u8], n: usize) -> bool
     requires { ⌜ n ≤ recordsIn (now src) ⌝ }
     ensures { λ r. ⌜ r ≡ allBelow (λ i. recordOk (headAt (now (src .entry)) i)) n ⌝ }
 {
-    let table = ALLOWED_FACTS;
     let mut i = 0;
     while i < n {
-        if record_ok(src, i, &table) {
+        if record_ok(src, i) {
             i += 1;
         } else {
             return false;

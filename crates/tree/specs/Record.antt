@@ -24,7 +24,7 @@ stringPair facts = facts / 8 % 4
 unfoldable pub symbolYes : Head → Bool
 symbolYes h = eqb (symbolPair (h .facts)) 2
 
--- "0 for 8, 11, 19; 1 for 9; 255 for 16; 127 for 17; else 31"
+-- "0 for 8, 11, 19; 1 for 9; 255 for 16; 127 for 17; else 31"; 02, N3: "its formula over the kind", the line of docs/FORMAT.md
 unfoldable pub allowedFacts : ℕ → ℕ
 allowedFacts k =
     cond (eqb k kind.elision || (eqb k kind.property || eqb k kind.element)) 0

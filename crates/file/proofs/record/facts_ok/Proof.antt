@@ -1,5 +1,6 @@
 use mathlib.Core.Path.{sym, _∙_}
-use Rattle.file.specs.Facts.{facts-over, facts-literal, facts-symbol, facts-other, facts-pairs}
+use native.Mathlib.Omega.{arith}
+use Rattle.file.specs.Facts.{never-low, facts-over, facts-literal, facts-symbol, facts-other, facts-pairs}
 use borrow.Author.Needs.{needs}
 use Rattle.file.proofs.record.facts_ok.Statement.{statement}
 use Rattle.file.proofs.record.facts_ok.Tie as tie
@@ -13,9 +14,6 @@ facts-at-requires c κs = search needs
 allowed-facts-requires : tie.Need-allowed-facts-requires
 allowed-facts-requires c κs = search needs
 
-cast-if1 : tie.Need-cast-if1
-cast-if1 c = search needs
-
 returns : tie.Need-returns
 returns c = sym (facts-over _ _ _ _ (c .before .before .before .kind-at .ensures .0) (c .before .before .facts-at .ensures .0) (c .before .before .facts-at .ensures .1) (c .before .allowed-facts .ensures) (c .if1 .taken))
 
@@ -28,17 +26,17 @@ returns-2 c = sym (facts-literal _ _ _ _ (c .before .before .before .before .bef
 never-kind-requires : tie.Need-never-kind-requires
 never-kind-requires c κs = search needs
 
-pick-requires : tie.Need-pick-requires
-pick-requires c κs = search needs
+add-if4 : tie.Need-add-if4
+add-if4 c = omega (arith, c .never-kind .ensures, never-low (c .before .before .before .before .before .before .before .kind-at .result))
 
 never-symbol-alone-requires : tie.Need-never-symbol-alone-requires
 never-symbol-alone-requires c κs = search needs
 
 returns-3 : tie.Need-returns-3
-returns-3 c = sym (facts-symbol _ _ _ _ (c .before .before .before .before .before .before .before .before .before .before .kind-at .ensures .0) (c .before .before .before .before .before .before .before .before .before .facts-at .ensures .0) (c .before .before .before .before .before .before .before .before .before .facts-at .ensures .1) (c .before .before .before .before .before .before .before .before .allowed-facts .ensures) (c .before .before .before .before .before .before .before .if1 .left) (sym (c .before .before .before .before .before .before .pairs-ok .ensures) ∙ c .before .before .before .before .before .if2 .taken) (c .before .before .before .before .if3 .left) (rw (← c .before .before .before .never-kind .ensures) (sym (c .before .before .pick .ensures) ∙ c .before .if4 .taken)) _ (c .never-symbol-alone .ensures))
+returns-3 c = sym (facts-symbol _ _ _ _ (c .before .before .before .before .before .before .before .before .before .kind-at .ensures .0) (c .before .before .before .before .before .before .before .before .facts-at .ensures .0) (c .before .before .before .before .before .before .before .before .facts-at .ensures .1) (c .before .before .before .before .before .before .before .allowed-facts .ensures) (c .before .before .before .before .before .before .if1 .left) (sym (c .before .before .before .before .before .pairs-ok .ensures) ∙ c .before .before .before .before .if2 .taken) (c .before .before .before .if3 .left) (rw (← c .before .before .never-kind .ensures) (c .before .if4 .taken)) _ (c .never-symbol-alone .ensures))
 
 returns-4 : tie.Need-returns-4
-returns-4 c = sym (facts-other _ _ _ _ (c .before .before .before .before .before .before .before .before .before .kind-at .ensures .0) (c .before .before .before .before .before .before .before .before .facts-at .ensures .0) (c .before .before .before .before .before .before .before .before .facts-at .ensures .1) (c .before .before .before .before .before .before .before .allowed-facts .ensures) (c .before .before .before .before .before .before .if1 .left) (sym (c .before .before .before .before .before .pairs-ok .ensures) ∙ c .before .before .before .before .if2 .taken) (c .before .before .before .if3 .left) (λ e. c .if4 .left (c .before .pick .ensures ∙ rw (c .before .before .never-kind .ensures) e)))
+returns-4 c = sym (facts-other _ _ _ _ (c .before .before .before .before .before .before .before .before .kind-at .ensures .0) (c .before .before .before .before .before .before .before .facts-at .ensures .0) (c .before .before .before .before .before .before .before .facts-at .ensures .1) (c .before .before .before .before .before .before .allowed-facts .ensures) (c .before .before .before .before .before .if1 .left) (sym (c .before .before .before .before .pairs-ok .ensures) ∙ c .before .before .before .if2 .taken) (c .before .before .if3 .left) (λ e. c .if4 .left (rw (c .before .never-kind .ensures) e)))
 
 returns-5 : tie.Need-returns-5
 returns-5 c = sym (facts-pairs _ _ _ _ (c .before .before .before .before .before .kind-at .ensures .0) (c .before .before .before .before .facts-at .ensures .0) (c .before .before .before .before .facts-at .ensures .1) (c .before .before .before .allowed-facts .ensures) (c .before .before .if1 .left) (sym (c .before .pairs-ok .ensures) ∙ c .if2 .left))
@@ -50,12 +48,11 @@ facts-ok-spec =
     kind-at-requires
     facts-at-requires
     allowed-facts-requires
-    cast-if1
     returns
     pairs-ok-requires
     returns-2
     never-kind-requires
-    pick-requires
+    add-if4
     never-symbol-alone-requires
     returns-3
     returns-4
