@@ -9,6 +9,7 @@ pub mod conditionals;
 pub mod damage;
 pub mod damaged;
 pub mod derived;
+pub mod facts;
 #[cfg(feature = "library")]
 pub mod faulty;
 pub mod file;

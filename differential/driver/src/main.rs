@@ -4,6 +4,7 @@ use driver::bench;
 use driver::compare::{Comparator, Tally};
 use driver::conditionals::{self, Extent};
 use driver::damaged;
+use driver::facts;
 use driver::fixed;
 use driver::hits::HITS;
 #[cfg(feature = "library")]
@@ -147,6 +148,7 @@ fn run(arguments: &Arguments) -> Result<String, String> {
     run::conditional_rows(&mut comparator)?;
     run::never_symbol_rows(&mut comparator)?;
     let sums = sums::go(&mut comparator)?;
+    let facts = facts::go(&mut comparator)?;
     run::edges(&mut comparator)?;
     let list = fixed::decode(fixed::LIST).ok_or("the fixed list cannot be read")?;
     run::fixed_list(&mut comparator, &list)?;
@@ -157,6 +159,7 @@ fn run(arguments: &Arguments) -> Result<String, String> {
     report(&tally, arguments, list.len(), questions);
     println!("  {}", every_list(small));
     println!("  {} files of additions in each other, {} of them refused", sums.0 + sums.1, sums.1);
+    println!("  {} files of every kind with every facts byte, {facts} refused by 5", facts::FILES);
     run::met_enough(&tally)?;
     Ok(passed(&tally))
 }

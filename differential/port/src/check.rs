@@ -78,7 +78,7 @@ fn is_left_out(record: &Record, logicals: bool) -> bool {
 }
 
 /// "Allowed facts stand in a constant table by kind: 0 for 8, 11, 19; 1 for 9; 255 for 16; 127
-/// for 17; else 31."
+/// for 17; else 31." The product goes by a formula (02, N3), which the driver holds to this table.
 const ALLOWED_FACTS: [u8; KINDS] =
     [0, 31, 31, 31, 31, 31, 31, 31, 0, 1, 31, 0, 31, 31, 31, 31, 255, 127, 31, 0, 31, 31, 31];
 

@@ -2,11 +2,11 @@
 //! find every one. The edits stand apart from the port, so that the port has no hooks for them.
 //!
 //! `wrong [--trees N] [--seed S] [--oracle PATH]` prints how many trees (each with a damaged copy, a
-//! copy with logicals and two Derived questions) it takes until the wrong port differs from the
-//! port; until a promise that holds of every answer is broken, with no other side at hand; where the
-//! oracle can see it, until it differs from the oracle; and how many cases of the fixed list it
-//! takes. It fails if one is not found by all that its edit names, of which the oracle counts where
-//! it is given, or if the port itself is found.
+//! copy with logicals, sixteen of the files of every kind with every facts byte and two Derived
+//! questions) it takes until the wrong port differs from the port; until a promise that holds of
+//! every answer is broken, with no other side at hand; where the oracle can see it, until it differs
+//! from the oracle; and how many cases of the fixed list it takes. It fails if one is not found by all
+//! that its edit names, of which the oracle counts where it is given, or if the port itself is found.
 
 use driver::compare::{Comparator, Difference};
 use driver::fixed::Case;
@@ -14,7 +14,7 @@ use driver::oracle::Oracle;
 use driver::random::Random;
 use driver::run::{self, Drawn};
 use driver::side::{Answer, Listing, Port, Reduction, Side};
-use driver::{derived, file, fixed, never_symbol};
+use driver::{derived, facts, file, fixed, never_symbol};
 use port::Limits;
 use std::fmt::{self, Display, Formatter};
 use std::panic::{self, AssertUnwindSafe};
@@ -193,7 +193,11 @@ fn search_list(side: &dyn Side, list: &[Case]) -> Option<u64> {
     })
 }
 
-/// A tree with its copies, damaged and with logicals, and two Derived questions.
+/// So many files of every kind with every facts byte go with a tree, in turn.
+const FACTS_FILES: u64 = 16;
+
+/// A tree with its copies, damaged and with logicals, files of every kind with every facts byte, and two
+/// Derived questions.
 fn held(
     comparator: &mut Comparator,
     random: &mut Random,
@@ -201,6 +205,9 @@ fn held(
     i: u64,
 ) -> Result<(), Difference> {
     run::case(comparator, seed, i)?;
+    for number in i * FACTS_FILES..(i + 1) * FACTS_FILES {
+        facts::one(comparator, number % facts::FILES)?;
+    }
     derived::any(comparator, random)?;
     derived::refused(comparator, random)
 }
