@@ -3,15 +3,18 @@
 
 Its tables of records give the lists and the answers that stand behind them. The rows of "More lists" give the kinds and the
 coercions of their lists, and what they say is left; a row has no places of its own, and its nodes are all at 0. Each shape of the
-tables from JavaScript to records is taken, or refused by 6 where an operation does not take it. Each link leads to a heading.
+tables from JavaScript to records is taken, or refused by 6 where an operation does not take it. The line of the allowed facts
+gives the values beside it and those of the table of kinds, and by it each kind from 0 to 255 with each facts byte is taken or
+refused. Each link leads to a heading.
 """
 
 import pathlib
 import re
 import sys
 
-from edges import (ARRAY, ASSIGNMENT, CLASS, ELEMENT, IDENTIFIER, LITERAL, LOGICAL, NULLISH, OBJECT, PROPERTY, SPREAD, Node,
-                   tree_file)
+from edges import (ASSIGNMENT, BINARY, CLASS, ELEMENT, FACTS, IDENTIFIER, LITERAL, LOGICAL, NULLISH, OBJECT, PROPERTY,
+                   TEMPLATE, UNARY, Node, around, of, sample, tree_file, with_byte)
+from reader import allowed_facts
 
 ROOT = pathlib.Path(__file__).resolve().parent.parent
 sys.path.insert(0, str(ROOT / "python"))
@@ -35,8 +38,9 @@ def section(first, behind):
 
 def rows(text):
     """The cells of each row of the text's tables, but for those above a line of dashes and that line."""
-    lines = [[cell.strip() for cell in re.split(r"(?<!\\)\|", line)[1:-1]] for line in text.splitlines()]
-    return [cells for cells, after in zip(lines, lines[1:] + [[]]) if cells and "---" not in cells[:1] + after[:1]]
+    lines = [line for line in text.splitlines() if line.startswith("|")]
+    lines = [[cell.strip() for cell in re.split(r"(?<!\\)\|", line)[1:-1]] for line in lines]
+    return [cells for cells, after in zip(lines, lines[1:] + [[]]) if "---" not in cells[:1] + after[:1]]
 
 
 def listed(data, yes=()):
@@ -136,11 +140,6 @@ def node_of(shape):
     return Shape(shape).node()
 
 
-def around(node):
-    parent = {SPREAD: ARRAY, PROPERTY: OBJECT, ELEMENT: CLASS}.get(node.kind)
-    return node if parent is None else Node(parent, node)
-
-
 def check_shape(shape, node):
     """Which operation takes it goes by the root: under it are kinds that both take, or the same again."""
     data = tree_file(around(node))
@@ -192,6 +191,67 @@ def check_lists():
     return count
 
 
+# ---- Allowed facts
+
+
+def formula(line):
+    """The value of a line such as `k == 8 || k == 11 ? 0 : 31` at each byte."""
+    *cases, other = line.split(" : ")
+    values = [int(other)] * 256
+    for test, value in reversed([case.split(" ? ") for case in cases]):
+        for kind in test.split(" || "):
+            values[int(kind.removeprefix("k == "))] = int(value)
+    return values
+
+
+def numbers(before, behind):
+    """The numbers that the page lists between these words."""
+    return set(map(int, re.search(f"{before}([0-9, ]+){behind}", PAGE)[1].split(", ")))
+
+
+def number_of(data):
+    """That of the check's refusal; 0: taken."""
+    try:
+        uxt.check(data)
+        return 0
+    except uxt.Refused as refused:
+        return refused.number
+
+
+def allowed_by_line():
+    """What the line allows each kind; that are the values beside it, those of the table of kinds and the second reader's."""
+    text = section("Allowed facts", "How to set them")
+    allowed = formula(re.search(r"^ {4}(.*)$", text, re.MULTILINE)[1])
+    require(["allowed", *map(str, allowed[1:23])] in rows(text), "the values beside the line of the allowed facts are others")
+    told = {int(cells[0]): cells[3] for cells in rows(section("Kinds", "Class elements"))}
+    due = {kind: str(allowed[kind]) for kind in range(1, 23)} | {LITERAL: "exactly 18"}
+    require(told == due, "the allowed facts of the table of kinds are not those of the line")
+    require(allowed == list(map(allowed_facts, range(256))), "the allowed facts of reader.py are not those of the line")
+    return allowed
+
+
+def good_facts():
+    """For each kind the good facts bytes, by the line and the page's lists; unary and binary are taken for such as can never be a
+    symbol, as those of `sample` are."""
+    pairs, symbols = numbers("with 31 is one of ", ", on what"), numbers("a symbol without ", ";")
+    for kind, allowed in enumerate(allowed_by_line()):
+        good = {facts for facts in range(256) if facts & ~allowed == 0 and facts & 31 in pairs}
+        yield kind, {18} if kind == LITERAL else good - symbols if kind in (TEMPLATE, UNARY, BINARY) else good
+
+
+def check_facts():
+    """Each kind with each facts byte, in a tree that is good otherwise."""
+    count = 0
+    for kind, good in good_facts():
+        node = sample(kind)
+        data, at = tree_file(around(node)), of(0 if around(node) is node else 1, FACTS)
+        for facts in range(256):
+            due = 5 if not 1 <= kind <= 22 or facts not in good else 6 if kind in (LOGICAL, ASSIGNMENT) else 0
+            require(number_of(with_byte(data, at, facts)) == due, f"kind {kind}, facts {facts}: {due} is due")
+            count += 1
+    return count
+
+
 def check_links():
     headings = re.findall(r"^#+ (.*)$", PAGE, re.MULTILINE)
     names = {re.sub(r"[^a-z0-9 -]", "", heading.lower()).replace(" ", "-") for heading in headings}
@@ -201,9 +261,9 @@ def check_links():
 
 def main():
     check_links()
-    counts = check_tables(), check_shapes(), check_lists()
+    counts = check_tables(), check_shapes(), check_lists(), check_facts()
     require(min(counts) > 5, f"the page was not read: {counts}")
-    print("format page: {} tables of records, {} shapes with facts, {} lists".format(*counts))
+    print("format page: {} tables of records, {} shapes with facts, {} lists, {} kinds with facts".format(*counts))
 
 
 if __name__ == "__main__":

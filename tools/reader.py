@@ -1,7 +1,7 @@
 """A second reader of the tree file: whether a file is refused, for what, and where.
 
-An independent reading of document 01, "The tree file" and refusals 1 to 8, and of document 02, N1 and N9: it shares no code with
-the crates. It is not proved. It calls nothing by the depth of a tree, so a file may be as deep as it has records.
+An independent reading of document 01, "The tree file" and refusals 1 to 8, and of document 02, N1, N9 and N3: it shares no code
+with the crates. It is not proved. It calls nothing by the depth of a tree, so a file may be as deep as it has records.
 """
 
 import collections
@@ -181,9 +181,7 @@ def is_string(facts):
 
 
 def allowed_facts(kind):
-    if kind in (ELISION, PROPERTY, ELEMENT):
-        return 0
-    return {SPREAD: 1, CALL: 255, NEW: 127}.get(kind, 31)
+    return 0 if kind in (ELISION, PROPERTY, ELEMENT) else 1 if kind == SPREAD else 255 if kind == CALL else 127 if kind == NEW else 31
 
 
 def sub_fault(kind, sub):
