@@ -71,8 +71,16 @@ def text_of(spelling, numbers):
     return numbers.setdefault(spelling, len(numbers) + 1)
 
 
+def allowed_facts(kind):
+    """The bits that a facts byte may have, by the formula of docs/FORMAT.md."""
+    return (0 if kind in (ELISION, PROPERTY, ELEMENT) else 1 if kind == SPREAD
+            else 255 if kind == CALL else 127 if kind == NEW else 31)
+
+
 def records_of(node, numbers):
     """The records of a subtree: the node's own, then those of each child."""
+    if node.facts & ~allowed_facts(node.kind):
+        raise ValueError(f"kind {node.kind} may not have facts {node.facts}")
     text = text_of(node.spelling, numbers)
     below = b"".join(records_of(child, numbers) for child in node.children)
     size = 1 + len(below) // RECORD.size

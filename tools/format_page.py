@@ -14,11 +14,12 @@ import sys
 
 from edges import (ASSIGNMENT, BINARY, CLASS, ELEMENT, FACTS, IDENTIFIER, LITERAL, LOGICAL, NULLISH, OBJECT, PROPERTY,
                    TEMPLATE, UNARY, Node, around, of, sample, tree_file, with_byte)
-from reader import allowed_facts
+from reader import allowed_facts as reader_allows
 
 ROOT = pathlib.Path(__file__).resolve().parent.parent
-sys.path.insert(0, str(ROOT / "python"))
+sys.path[:0] = [str(ROOT / "python"), str(ROOT / "examples")]
 import uxt  # noqa: E402
+from exporter import allowed_facts as exporter_allows  # noqa: E402
 
 PAGE = (ROOT / "docs/FORMAT.md").read_text(encoding="utf-8")
 SETTINGS = {"": (0, ()), "annotations": (1, ()), "tree-shake-only": (2, ()), "derived": (4, ()), "yes": (0, (0,))}
@@ -219,14 +220,15 @@ def number_of(data):
 
 
 def allowed_by_line():
-    """What the line allows each kind; that are the values beside it, those of the table of kinds and the second reader's."""
+    """What the line allows each kind: the values beside it, those of the table of kinds, the second reader's and the exporter's."""
     text = section("Allowed facts", "How to set them")
     allowed = formula(re.search(r"^ {4}(.*)$", text, re.MULTILINE)[1])
     require(["allowed", *map(str, allowed[1:23])] in rows(text), "the values beside the line of the allowed facts are others")
     told = {int(cells[0]): cells[3] for cells in rows(section("Kinds", "Class elements"))}
     due = {kind: str(allowed[kind]) for kind in range(1, 23)} | {LITERAL: "exactly 18"}
     require(told == due, "the allowed facts of the table of kinds are not those of the line")
-    require(allowed == list(map(allowed_facts, range(256))), "the allowed facts of reader.py are not those of the line")
+    for reader in (reader_allows, exporter_allows):
+        require(allowed == list(map(reader, range(256))), f"the allowed facts of {reader.__module__}.py are not those of the line")
     return allowed
 
 
