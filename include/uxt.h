@@ -25,7 +25,7 @@ extern "C" {
 #endif
 
 /* Of the library. A tree file has a version of its own, which is 1. */
-#define UXT_VERSION "2.0.0"
+#define UXT_VERSION "3.0.0"
 
 /* Why a file, or what is lent, is refused; docs/FORMAT.md has each in full. 0 stands for no refusal. */
 #define UXT_REFUSED_MARK 1      /* under 8 bytes, or another mark */

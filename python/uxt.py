@@ -1,7 +1,7 @@
 """The proved reducer of expression trees, from Python: the C functions of include/uxt.h, by ctypes.
 
 Nothing is to be installed. The shared library is the file that the environment variable UXT_SHARED_LIBRARY names; else the one that
-`./uxt lib` makes in target/library/ of the repository; else the `libuxt.so.2` that the system's loader finds.
+`./uxt lib` makes in target/library/ of the repository; else the `libuxt.so.3` that the system's loader finds.
 
 Each function takes any bytes-like object and keeps nothing. Calls from several threads run at once: ctypes lets go of the
 interpreter's lock, and every call has buffers of its own. docs/FORMAT.md describes the tree file.
@@ -13,9 +13,9 @@ import os
 import pathlib
 import typing
 
-VERSION = "2.0.0"
+VERSION = "3.0.0"
 
-_BUILT = pathlib.Path(__file__).resolve().parent.parent / "target/library/libuxt.so.2"
+_BUILT = pathlib.Path(__file__).resolve().parent.parent / "target/library/libuxt.so.3"
 _MOST_REDUCED, _MOST_LISTED = 2000, 3999  # records that Reduce and List effects take
 
 

@@ -22,7 +22,7 @@ import uxt  # noqa: E402
 from exporter import allowed_facts as exporter_allows  # noqa: E402
 
 PAGE = (ROOT / "docs/FORMAT.md").read_text(encoding="utf-8")
-SETTINGS = {"": (0, ()), "annotations": (1, ()), "tree-shake-only": (2, ()), "derived": (4, ()), "yes": (0, (0,))}
+SETTINGS = {"annotations": 1, "tree-shake-only": 2, "derived": 4}
 EFFECT = re.compile(r"`(\d+)/(\d+)/([01])`")
 SHAPE = re.compile(r"`(\d+(?:/\d+)?(?:\[[^`]*\])?)`")
 UNDER = re.compile(r"\. With the yes place (\d+): ")
@@ -179,7 +179,8 @@ def check_lists():
     count = 0
     for cells in rows(section("More lists", "What is left: made nodes")):
         expression, shape, facts, settings, list_, stays = cells
-        on, yes = SETTINGS[settings]
+        words = settings.split(", ") if settings else []
+        on, yes = sum(SETTINGS[word] for word in words if word != "yes"), (0,) if "yes" in words else ()
         data = tree_file(with_facts(node_of(shape.strip("`")), map(int, facts.split(", "))), settings=on)
         answer = listed(data, yes)
         told = [effect[1:] for effect in effects(list_)]

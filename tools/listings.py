@@ -229,9 +229,45 @@ def symbols(c):
     c.list("a template by its string fact alone is a string", add(1, node(TEMPLATE, 2), x(3, 0)), "1/15/0")
 
 
+def kept_by_tree_shake_only(settings, callee, kind=CALL):
+    """A call of a function or arrow: the rule that stands before purity (02, N5)."""
+    return bool(settings & TREE_SHAKE_ONLY) and kind == CALL and callee in (FUNCTION, ARROW)
+
+
 def pure(settings, facts, callee=IDENTIFIER, kind=CALL):
-    return bool(facts & ANNOTATED and settings & ANNOTATIONS or facts & LISTED
-                or facts & SUMMARY_FREE and kind == CALL and callee == IDENTIFIER)
+    return not kept_by_tree_shake_only(settings, callee, kind) and bool(
+        facts & ANNOTATED and settings & ANNOTATIONS or facts & LISTED
+        or facts & SUMMARY_FREE and kind == CALL and callee == IDENTIFIER)
+
+
+def of_functions():
+    """Calls and news of functions and arrows, with `void x` as argument: settings, and kind, callee and facts of the root."""
+    for settings in (0, ANNOTATIONS, TREE_SHAKE_ONLY, ANNOTATIONS + TREE_SHAKE_ONLY, 7):
+        for kind in (CALL, NEW):
+            for callee in (FUNCTION, ARROW):
+                for facts in (0, ANNOTATED, LISTED, ANNOTATED + LISTED):
+                    for flag in (0, FLAG):
+                        said = f"kind {kind} of kind {callee}, facts {flag + facts}, settings {settings}"
+                        yield said, settings, node(kind, 1, node(callee, 2, facts=flag), node(UNARY, 3, x(4), facts=FLAG, sub=VOID),
+                                                   facts=flag + facts)
+
+
+def called_functions(c):
+    for said, settings, root in of_functions():
+        callee = root.children[0].kind
+        flagged = root.facts & FLAG
+        whole = f"2/{callee}/0 4/2/0 1/{root.kind}/0" if flagged else "4/2/0"
+        c.list(said, root, "4/2/0" if pure(settings, root.facts, callee, root.kind) else whole, settings)
+    both, called = ANNOTATIONS + TREE_SHAKE_ONLY, call(5, node(ARROW, 6, facts=FLAG), x(7), facts=FLAG + ANNOTATED)
+    c.list("a called arrow as argument of a pure call", call(1, x(2), called, facts=FLAG + LISTED), "6/4/0 7/2/0 5/16/0", both)
+    c.list("a called arrow as argument of a called function", call(1, node(FUNCTION, 2), called, facts=FLAG + LISTED),
+           "6/4/0 7/2/0 5/16/0 1/16/0", both)
+    c.list("a called arrow as callee of a pure call", call(1, called, x(2), facts=FLAG + LISTED), "2/2/0", both)
+    c.list("a called arrow as callee of an annotated call, annotations off", call(1, called, x(2), facts=FLAG + ANNOTATED),
+           "6/4/0 7/2/0 5/16/0 2/2/0 1/16/0", TREE_SHAKE_ONLY)
+    c.list("spreads as arguments of a called function",
+           call(1, node(FUNCTION, 2), node(SPREAD, 3, x(4)), node(SPREAD, 5, x(6), facts=FLAG), facts=LISTED),
+           "4/2/0 6/2/0 5/9/0", both)
 
 
 def calls(c):
@@ -438,8 +474,8 @@ def refusals(c):
 
 def all_cases():
     c = Cases()
-    for group in (leaves, lists, templates, unaries, binaries, additions, symbols, calls, classes, heritages, conditionals,
-                  logicals, tested, arrows, widest, limits, refusals):
+    for group in (leaves, lists, templates, unaries, binaries, additions, symbols, calls, called_functions, classes, heritages,
+                  conditionals, logicals, tested, arrows, widest, limits, refusals):
         group(c)
     return c.cases
 

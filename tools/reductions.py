@@ -25,7 +25,8 @@ from edges import (AND, ARRAY, ARROW, ASSIGNMENT, BINARY, CALL, CONDITIONAL, COU
 from listings import (ACCESSOR, ANNOTATED, ANNOTATIONS, BLOCK, COMPARISON, DECORATED, DECORATED_CLASS, DERIVED,
                       FIELD, FLAG, HERITAGE, INDEX_SIGNATURE, KEY, LAST_PLACE, LISTED, METHOD, NO_SYMBOL, NONEMPTY, NOT,
                       OTHER_BINARY, OTHER_UNARY, STATIC, STRING, SUMMARY_FREE, SYMBOL, TREE_SHAKE_ONLY, TYPEOF, VALUE,
-                      VOID, add, call, class_of, conditional, element, literal, logical, node, pure, sequence, sequence_of_one, x)
+                      VOID, add, call, class_of, conditional, element, kept_by_tree_shake_only, literal, logical, node, of_functions, pure,
+                      sequence, sequence_of_one, x)
 
 MOST_RECORDS, MOST_DEPTH = 2000, 64
 
@@ -550,10 +551,10 @@ def callees(c, settings, kind):
     callee, said = node(kind, 2, facts=FLAG), f"the callee of kind {kind}, settings {settings}"
     free = call(1, callee, x(3), facts=FLAG + SUMMARY_FREE)
     c.kept(f"summary free, {said}", free, x(3) if kind == IDENTIFIER else free, settings)
-    impure = call(1, callee, x(3), facts=0)
-    kept = settings & TREE_SHAKE_ONLY and kind in (FUNCTION, ARROW)
+    impure, listed = call(1, callee, x(3), facts=0), call(1, callee, x(3), facts=LISTED)
+    kept = kept_by_tree_shake_only(settings, kind)
     c.either(f"impure, clear, {said}", impure, impure if kept else None, settings)
-    c.kept(f"listed, clear, {said}", call(1, callee, x(3), facts=LISTED), x(3), settings)
+    c.kept(f"listed, clear, {said}", listed, listed if kept else x(3), settings)
 
 
 def arguments(c):
@@ -576,9 +577,37 @@ def arguments(c):
     c.kept("pure calls within a pure call",
            call(1, x(2), call(3, x(4), x(5), x(6), facts=LISTED), call(7, x(8), facts=LISTED), x(9), facts=LISTED),
            several(1, several(3, x(5), x(6)), x(9)))
-    c.removable("annotated, a call of a function, both settings", call(1, node(FUNCTION, 2), facts=ANNOTATED),
-                ANNOTATIONS + TREE_SHAKE_ONLY)
+
+
+def called_functions(c):
+    """02, N5: such a call stays whole, its argument `void x` unreduced; where it is pure, x is left."""
+    for said, settings, root in of_functions():
+        callee = root.children[0].kind
+        if pure(settings, root.facts, callee, root.kind):
+            c.kept(said, root, x(4), settings)
+        else:
+            kept = root.kind == NEW or root.facts & FLAG or kept_by_tree_shake_only(settings, callee)
+            c.either(said, root, root if kept else None, settings)
+    both = ANNOTATIONS + TREE_SHAKE_ONLY
+    c.unchanged("annotated, a call of a function, both settings", call(1, node(FUNCTION, 2), facts=ANNOTATED), both)
     c.unchanged("annotated, a call of a function, annotations off", call(1, node(FUNCTION, 2), facts=ANNOTATED), TREE_SHAKE_ONLY)
+    c.removable("annotated, a call of a function, tree-shake-only off", call(1, node(FUNCTION, 2), facts=ANNOTATED), ANNOTATIONS)
+    c.removable("annotated, a new of a function, both settings", new(1, node(FUNCTION, 2), facts=ANNOTATED), both)
+    called = call(20, node(ARROW, 21), void(22, x(23)), clear(24), spread(25, clear(26), 0), facts=ANNOTATED)
+    c.unchanged("a called arrow with arguments that would go", called, both)
+    c.kept("a called arrow as argument of a pure call", call(1, x(2), called, facts=LISTED), called, both)
+    c.kept("a called arrow as argument of a pure new", new(1, x(2), clear(3), called, facts=LISTED), called, both)
+    c.kept("a called arrow and another argument of a pure call", call(1, x(2), called, x(3), facts=LISTED),
+           several(1, called, x(3)), both)
+    c.unchanged("a called arrow as argument of a called function", call(1, node(FUNCTION, 2), called, facts=LISTED), both)
+    c.removable("a called arrow as callee of a pure call", call(1, called, facts=LISTED), both)
+    c.removable("a called arrow as callee of a clear impure call", call(1, called, facts=0), both)
+    c.kept("a called arrow in an array", array(1, clear(2), called), called, both)
+    c.kept("a called arrow in a sequence", sequence(1, called, clear(2)), sequence(1, called), both)
+    c.kept("a called arrow under void", void(1, called), called, both)
+    c.kept("a called arrow in a comparison", node(BINARY, 1, called, x(2), facts=FLAG, sub=COMPARISON), several(1, called, x(2)), both)
+    c.removable("a called arrow in an unflagged conditional", conditional(1, x(2), called, called, facts=0), both)
+    c.kept("a called arrow as the arm that stays", conditional(1, x(2), called, clear(3)), made_and(1, x(2), called), both)
 
 
 def classes(c):
@@ -999,7 +1028,7 @@ def lent_bytes(c):
 def all_cases():
     c = Cases()
     for group in (rows, leaves, unaries, sequences, arrays, templates, objects, comparisons, chains, additions, symbols, calls,
-                  arguments, classes, conditionals, conditional_places, nested, limits, refusals, conditional_refusals,
+                  arguments, called_functions, classes, conditionals, conditional_places, nested, limits, refusals, conditional_refusals,
                   symbol_refusals, lent_bytes):
         group(c)
     return c.cases

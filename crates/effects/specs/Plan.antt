@@ -12,16 +12,16 @@ use Rattle.tree.specs.Heads.{bare}
 use Rattle.tree.specs.Children.{childCountOk, nodeOk}
 use Rattle.tree.specs.Stands.{node-parts}
 use Rattle.rules.specs.Lists.{concatMap}
-use Rattle.rules.specs.Settings.{Settings, annotations, derived}
+use Rattle.rules.specs.Settings.{Settings, derived}
 use Rattle.rules.specs.Handler.{Handler, handler}
-use Rattle.rules.specs.Facts.{flagged, listed, ofIdentifier, pureNew, pureCall, testIsYes}
+use Rattle.rules.specs.Facts.{flagged, ofIdentifier, pureNew, pureCall, testIsYes}
 use Rattle.rules.specs.Conditional.{testOf, armsOf, consequentOf, alternateOf}
 use Rattle.rules.specs.Class.{heritage, elements}
 use Rattle.rules.specs.Effects.{Evaluated, evaluate, effects, effectsOf, effectsBy, itselfIf, coercion, additionEffect, childrenInOrder, classIsEffect}
 use Rattle.rules.specs.Proofs.Lists.{by-cond, take-map, drop-map, concatMap-map}
 use Rattle.rules.specs.Proofs.Unfold.{evaluated, inOrder-is}
 use Rattle.rules.specs.Proofs.Effects.{own, effectsOf-append, coerced-is}
-use Rattle.readings.specs.Node.{Node, settingsGiven, settingsWith}
+use Rattle.readings.specs.Node.{Node, settingsGiven}
 use Rattle.tree.specs.Kind as kind
 use Rattle.effects.specs.declared.plan.Plan.{Plan}
 use Rattle.effects.specs.declared.plan.Plan.the-variants.{Nothing, Children, Coerced, Arguments, Test, Arm, Addition, Class}
@@ -312,15 +312,7 @@ module _ (s : Settings) (t : Tree) where
         ) in
         in-order (others k) e′ (others-in-order s t (map (evaluated s) ts) k)
 
--- What does not read the places that count as yes: the derived setting, as the code reads it, and purity.
+-- The derived setting, as the code reads it: not by the places that count as yes.
 pub derived-is : (places : List ℕ) (n : ℕ) → eqb (n / 4 % 2) 1 ≡ derived (settingsGiven places n)
 unfolding derived
 derived-is places n = refl
-
-pub pure-call-given : (places : List ℕ) (n : ℕ) (t : Tree) → pureCall (settingsGiven places n) t ≡ pureCall (settingsWith n) t
-unfolding pureCall pureNew annotations listed
-pure-call-given places n t = refl
-
-pub pure-new-given : (places : List ℕ) (n : ℕ) (t : Tree) → pureNew (settingsGiven places n) t ≡ pureNew (settingsWith n) t
-unfolding pureNew annotations listed
-pure-new-given places n t = refl

@@ -3,7 +3,7 @@ use fields::kind;
 ghost use Prim.Native.Nat.{_+_, _≤_};
 ghost use Rattle.tree.specs.Room.{recordsIn};
 ghost use Rattle.rules.specs.Handler.{isKind, isFunction, firstIs};
-ghost use Rattle.rules.specs.Facts.{ofIdentifier, pureNew, pureCall, hasSideEffectsOrPreservedIife};
+ghost use Rattle.rules.specs.Facts.{ofIdentifier, pureNew, preservedIife, pureCall, hasSideEffectsOrPreservedIife};
 ghost use Rattle.readings.specs.Node.{SomeNode, Tells, settingsWith};
 
 // Whether the argument of a unary, or the callee of a call or new, has this kind.
@@ -38,19 +38,6 @@ pub fn pure_new(src: &[u8], i: usize, settings: u8) -> bool
     false
 }
 
-pub fn pure_call(src: &[u8], i: usize, settings: u8) -> bool
-    requires { ⌜ SomeNode (now src) i ⌝ }
-    ensures { λ r. ⌜ Tells (now (src .entry)) i (pureCall (settingsWith settings)) r ⌝ }
-{
-    if pure_new(src, i, settings) {
-        return true;
-    }
-    if first_is(src, i, kind::IDENTIFIER) {
-        return fields::facts_at(src, i) / 128 % 2 == 1;
-    }
-    false
-}
-
 // Whether the callee is a function or arrow.
 fn first_is_function(src: &[u8], i: usize) -> bool
     requires { ⌜ SomeNode (now src) i ⌝ }
@@ -62,6 +49,33 @@ fn first_is_function(src: &[u8], i: usize) -> bool
     first_is(src, i, kind::ARROW)
 }
 
+// Whether tree-shake-only keeps a call, whatever else is said of it.
+fn preserved_iife(src: &[u8], i: usize, settings: u8) -> bool
+    requires { ⌜ SomeNode (now src) i ⌝ }
+    ensures { λ r. ⌜ Tells (now (src .entry)) i (preservedIife (settingsWith settings)) r ⌝ }
+{
+    if settings / 2 % 2 == 1 {
+        return first_is_function(src, i);
+    }
+    false
+}
+
+pub fn pure_call(src: &[u8], i: usize, settings: u8) -> bool
+    requires { ⌜ SomeNode (now src) i ⌝ }
+    ensures { λ r. ⌜ Tells (now (src .entry)) i (pureCall (settingsWith settings)) r ⌝ }
+{
+    if preserved_iife(src, i, settings) {
+        return false;
+    }
+    if pure_new(src, i, settings) {
+        return true;
+    }
+    if first_is(src, i, kind::IDENTIFIER) {
+        return fields::facts_at(src, i) / 128 % 2 == 1;
+    }
+    false
+}
+
 pub fn has_side_effects_or_preserved_iife(src: &[u8], i: usize, settings: u8) -> bool
     requires { ⌜ SomeNode (now src) i ⌝ }
     ensures { λ r. ⌜ Tells (now (src .entry)) i (hasSideEffectsOrPreservedIife (settingsWith settings)) r ⌝ }
@@ -69,8 +83,5 @@ pub fn has_side_effects_or_preserved_iife(src: &[u8], i: usize, settings: u8) ->
     if crate::facts::flagged_at(src, i) {
         return true;
     }
-    if settings / 2 % 2 == 1 {
-        return first_is_function(src, i);
-    }
-    false
+    preserved_iife(src, i, settings)
 }

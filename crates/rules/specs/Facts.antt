@@ -36,12 +36,20 @@ summaryFree t = bitSet 7 (t .head .facts)
 unfoldable pub pureNew : Settings → Tree → Bool
 pureNew s t = (annotations s && annotated t) || listed s t
 
+unfoldable pub pureCallBy01 : Settings → Tree → Bool
+pureCallBy01 s t = pureNew s t || (firstIs isIdentifier t && summaryFree t)
+
+-- "tree-shake-only is on and the callee is a function or arrow"
+unfoldable pub preservedIife : Settings → Tree → Bool
+preservedIife s t = treeShakeOnly s && firstIs isFunction t
+
+-- 02, N5: "Our bundler users expect tree-shake-only to keep every such call. That rule now stands before purity."
 unfoldable pub pureCall : Settings → Tree → Bool
-pureCall s t = pureNew s t || (firstIs isIdentifier t && summaryFree t)
+pureCall s t = not (preservedIife s t) && pureCallBy01 s t
 
 -- "An impure call is removable exactly if unflagged, and not if tree-shake-only is on and the callee is a function or arrow."
 unfoldable pub hasSideEffectsOrPreservedIife : Settings → Tree → Bool
-hasSideEffectsOrPreservedIife s t = flagged t || (treeShakeOnly s && firstIs isFunction t)
+hasSideEffectsOrPreservedIife s t = flagged t || preservedIife s t
 
 -- "Typeof of an identifier reference"
 unfoldable pub ofIdentifier : Tree → Bool

@@ -4,6 +4,7 @@ pub mod Unfold
 pub mod Facts
 pub mod Everywhere
 pub mod Effects
+pub mod Called
 pub mod Given
 pub mod Addition
 pub mod Demand

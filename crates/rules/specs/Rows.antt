@@ -119,8 +119,8 @@ pub rows-hold : map (λ r. reduce settings (r .from)) rows ≡ map (λ r. r .to)
 unfolding reduce tree.recur tree.each Settings.annotations Settings.treeShakeOnly Settings.derived Handler.handler
     Handler.isKind symbol.isAddition symbol.stringFact symbol.isStringRule symbol.isString symbol.isStringAddition symbol.neverSymbol
     rec.isVoidNotOrTypeof rec.isComparison rec.neverSymbolAlone Facts.flagged Facts.possibleSymbol
-    Facts.annotated Facts.listed Facts.summaryFree Facts.pureNew Facts.pureCall Facts.hasSideEffectsOrPreservedIife
-    Facts.ofIdentifier Facts.unchangedTemplate Facts.onlySpreads Facts.flaggedChild Made.flagOf Made.makeSequence
+    Facts.annotated Facts.listed Facts.summaryFree Facts.pureNew Facts.pureCallBy01 Facts.preservedIife Facts.pureCall
+    Facts.hasSideEffectsOrPreservedIife Facts.ofIdentifier Facts.unchangedTemplate Facts.onlySpreads Facts.flaggedChild Made.flagOf Made.makeSequence
     Made.makeArray Made.makeObject Made.makeTemplate Made.makeLogical Made.emptyLiteral Made.withChildren Made.joinSequence
     Addition.emptiedUnlessFlagged Addition.isDroppedRight Addition.foldSides Addition.foldRule
     Addition.foldStringAdditionChain Class.decoratedClass Class.hasStaticValue Class.decoratedElement Class.indexSignature
@@ -143,8 +143,8 @@ pub record Columns : Type 0 where
 
 pub columns : Columns
 unfolding reduce effects tree.recur tree.each Settings.annotations Settings.treeShakeOnly Handler.handler Handler.isKind
-    Facts.flagged Facts.possibleSymbol Facts.annotated Facts.listed Facts.summaryFree Facts.pureNew Facts.pureCall
-    Facts.hasSideEffectsOrPreservedIife Made.withChildren Class.hasStaticValue Class.nonemptyStaticBlock Reduce.reduceRule
+    Facts.flagged Facts.possibleSymbol Facts.annotated Facts.listed Facts.summaryFree Facts.pureNew Facts.pureCallBy01
+    Facts.preservedIife Facts.pureCall Facts.hasSideEffectsOrPreservedIife Made.withChildren Class.hasStaticValue Class.nonemptyStaticBlock Reduce.reduceRule
     Effects.itself Effects.evaluateRule Effects.evaluate
 columns = record { before = refl; after = refl; recordsBefore = refl; recordsAfter = refl }
 
@@ -166,6 +166,70 @@ g = 13 * 512 + 16 * 2
 
 pub chosen-hold : chosenRows ≡ (x ∷ g ∷ []) ∷ (x ∷ f ∷ []) ∷ (x ∷ g ∷ []) ∷ (x ∷ f ∷ []) ∷ []
 unfolding effects tree.recur tree.each Settings.annotations Settings.treeShakeOnly Settings.countsAsYes Handler.handler Handler.isKind
-    Facts.flagged Facts.annotated Facts.listed Facts.summaryFree Facts.pureNew Facts.pureCall Facts.testIsYes
+    Facts.flagged Facts.annotated Facts.listed Facts.summaryFree Facts.pureNew Facts.pureCallBy01 Facts.preservedIife
+    Facts.pureCall Facts.testIsYes
     Class.hasStaticValue Class.nonemptyStaticBlock Effects.itself Effects.evaluateRule Effects.evaluate
 chosen-hold = refl
+
+-- 02, N5: a call or `new` at 1, with facts, of a callee at 2, with `f()` at 20 as its argument; bit 5 of the facts annotated, 6 listed.
+abbrev called : ℕ → ℕ → ℕ → Tree
+called kind facts callee = node kind facts 0 0 1 (node callee 0 0 7 2 [] ∷ call 1 20 ∷ [])
+
+-- Under settings (bit 0 annotations, 1 tree-shake-only): a node, what is left of it, and its effect list.
+pub record CalledRow : Type 0 where
+  pub byte : ℕ
+  pub from : Tree
+  pub to : List Tree
+  pub list : List ℕ
+
+abbrev argument : ℕ
+argument = 20 * 512 + 16 * 2
+
+abbrev calledItself : ℕ
+calledItself = 1 * 512 + 16 * 2
+
+-- It stays whole, and is an effect itself if flagged; or it is pure, and its argument is left.
+abbrev stays : ℕ → Tree → List ℕ → CalledRow
+stays byte t own = record { byte = byte; from = t; to = t ∷ []; list = argument ∷ own }
+
+abbrev pure : ℕ → Tree → CalledRow
+pure byte t = record { byte = byte; from = t; to = call 1 20 ∷ []; list = argument ∷ [] }
+
+abbrev pub calledRows : List CalledRow
+calledRows =
+    -- annotated with annotations on: `(function () {})(f())`, unflagged, and `(() => {})(f())`, flagged
+    stays 3 (called kind.call 32 kind.function) []
+    ∷ stays 3 (called kind.call 33 kind.arrow) (calledItself ∷ [])
+    -- listed, annotations on or off; annotated and listed
+    ∷ stays 3 (called kind.call 64 kind.arrow) []
+    ∷ stays 2 (called kind.call 65 kind.function) (calledItself ∷ [])
+    ∷ stays 3 (called kind.call 96 kind.function) []
+    -- annotated with annotations off: impure by 01's rule, and kept by it
+    ∷ stays 2 (called kind.call 32 kind.arrow) []
+    -- tree-shake-only off; the callee an identifier; a `new`
+    ∷ pure 1 (called kind.call 97 kind.function)
+    ∷ pure 3 (called kind.call 97 kind.identifier)
+    ∷ pure 3 (called kind.new 97 kind.function)
+    -- as the argument of a pure call
+    ∷ record {
+      byte = 3;
+      from = node kind.call 32 0 0 0 (identifier 0 ∷ called kind.call 96 kind.arrow ∷ []);
+      to = called kind.call 96 kind.arrow ∷ [];
+      list = argument ∷ [];
+    }
+    ∷ []
+
+abbrev under : ℕ → Settings
+under byte = record { byte = byte; yes = [] }
+
+pub called-left : map (λ r. reduce (under (r .byte)) (r .from)) calledRows ≡ map (λ r. r .to) calledRows
+unfolding reduce tree.recur tree.each Settings.annotations Settings.treeShakeOnly Handler.handler Handler.isKind
+    Facts.flagged Facts.annotated Facts.listed Facts.summaryFree Facts.pureNew Facts.pureCallBy01 Facts.preservedIife
+    Facts.pureCall Facts.hasSideEffectsOrPreservedIife Reduce.reduceRule
+called-left = refl
+
+pub called-listed : map (λ r. effects (under (r .byte)) (r .from)) calledRows ≡ map (λ r. r .list) calledRows
+unfolding effects tree.recur tree.each Settings.annotations Settings.treeShakeOnly Handler.handler Handler.isKind
+    Facts.flagged Facts.annotated Facts.listed Facts.summaryFree Facts.pureNew Facts.pureCallBy01 Facts.preservedIife
+    Facts.pureCall Class.hasStaticValue Class.nonemptyStaticBlock Effects.itself Effects.evaluateRule Effects.evaluate
+called-listed = refl

@@ -1,5 +1,5 @@
 -- What is shown of reducing and listing, over all trees, facts and settings. A theorem assumes what it names, and no more.
-use mathlib.Core.Bool.{Bool, true, false, cond, not}
+use mathlib.Core.Bool.{Bool, true, false, cond, not, _&&_, _||_}
 use mathlib.Core.List.{List, [], _∷_, _++_, map}
 use mathlib.Core.Path.{_≡_, sym, _∙_, ap}
 use Prim.Native.Nat.{ℕ, suc, _*_, _-_, _≤_, _<_}
@@ -8,22 +8,25 @@ use native.Mathlib.Omega.{arith}
 use lib.Dec.{eqb}
 use lib.ListN.{length}
 use Rattle.tree.specs.Tree.{Tree, trees, forest, one, records, levels, size, depth, All}
+use Rattle.tree.specs.Kind as kind
 use Rattle.tree.specs.Record.{symbolPair}
 use Rattle.tree.specs.Symbol.{neverSymbol, additionsAgree}
 use Rattle.tree.specs.Children.{wellFormed}
 use Rattle.tree.specs.File.{allEncodable}
 use Rattle.tree.specs.Refusal.{Limits, reduceLimits, listEffectsLimits}
 use Rattle.tree.specs.Accepted.{Permitted, logicals-taken}
-use Rattle.rules.specs.Settings.{Settings, given}
-use Rattle.rules.specs.Handler.{handler}
-use Rattle.rules.specs.Facts.{flagged, possibleSymbol}
+use Rattle.rules.specs.Settings.{Settings, given, annotations, treeShakeOnly}
+use Rattle.rules.specs.Handler.{handler, isKind, isIdentifier, isFunction, firstIs}
+use Rattle.rules.specs.Facts.{flagged, possibleSymbol, annotated, listed, summaryFree, pureNew, pureCallBy01, preservedIife, pureCall}
 use Rattle.rules.specs.Reduce.{reduce}
-use Rattle.rules.specs.Effects.{effects, effectsOf}
+use Rattle.rules.specs.Effects.{effects, effectsOf, itselfIf}
 use Rattle.rules.specs.Reads.{reads, Premise}
 use Rattle.rules.specs.ReadsBy.{readsBy}
 use Rattle.rules.specs.Proofs.Demand.{demand-3}
 use Rattle.rules.specs.Proofs.Accepted.{accepted}
 use Rattle.rules.specs.Proofs.Effects.{whole}
+use Rattle.rules.specs.Proofs.Facts.{function-no-identifier}
+use Rattle.rules.specs.Proofs.Called as called
 use Rattle.rules.specs.Proofs.Given.{reduce-given}
 use Rattle.rules.specs.Proofs.Scale.{byRecords, byLevels}
 use Rattle.rules.specs.Proofs.Bounds.{bounded}
@@ -42,6 +45,10 @@ happens throws past (e ∷ es) = e ∷ cond (throws past e) [] (happens throws (
 -- What the limits of a tree make those of its answer.
 abbrev pub keptLimits : Limits → Limits
 keptLimits limits = record { records = 2 * limits .records - 1; depth = suc (limits .depth); logicals = true }
+
+-- 02, N5: "the calls with tree-shake-only on, a callee of kind 3 or 4, and either annotated with annotations on or listed"
+abbrev pub calledFunction : Settings → Tree → Bool
+calledFunction s t = treeShakeOnly s && (firstIs isFunction t && ((annotations s && annotated t) || listed s t))
 
 module _ (s : Settings) (t : Tree) where
   -- Demand 3: of an accepted tree, if each clear flag that is read is true, what is kept has the tree's effects, in length and at
@@ -120,6 +127,27 @@ module _ (s : Settings) (t : Tree) where
   pub as-recorded : neverSymbol t ≡ false → possibleSymbol t ≡ not (eqb (symbolPair (t .head .facts)) 1)
   unfolding possibleSymbol
   as-recorded e = rw e
+
+  -- 02, N5: "Exactly" these calls are no longer pure: a call is pure if it is so by 01's rule and is none of them.
+  pub pure-exactly : pureCall s t ≡ (pureCallBy01 s t && not (calledFunction s t))
+  unfolding pureCall pureCallBy01 preservedIife pureNew
+  pure-exactly =
+      called.before-purity (treeShakeOnly s) (firstIs isFunction t) ((annotations s && annotated t) || listed s t) (firstIs isIdentifier t && summaryFree t)
+      (λ e. rw (function-no-identifier t e))
+
+  -- Every call of a function or arrow under tree-shake-only, these among them,
+  module _ (call : isKind kind.call t ≡ true) (preserved : preservedIife s t ≡ true) where
+    -- "now stay[s] whole",
+    pub called-whole : reduce s t ≡ t ∷ []
+    called-whole = called.whole s t call preserved
+
+    -- "and count[s] as impure in the effect list": callee, arguments, then itself if flagged;
+    pub called-listed : effects s t ≡ effectsOf s (trees (t .kids)) ++ itselfIf (flagged t) t
+    called-listed = called.listed s t call preserved
+
+    -- and no clear flag is read at it or under it.
+    pub called-unread : reads s t ≡ []
+    called-unread = called.unread s t call preserved
 
   -- "10 under 2 × N entries lent": a list is always shorter.
   pub few-effects : length (effects s t) < 2 * size t

@@ -1,4 +1,5 @@
--- Rows, from the bytes of a file to the text: document 01's example, a removable tree, a list that ends before the other, a conditional, a refusal.
+-- Rows, from the bytes of a file to the text: document 01's example, a removable tree, a list that ends before the other, a conditional,
+-- a called arrow, a refusal.
 use mathlib.Core.Path.{_≡_, refl}
 use mathlib.Core.List.{List, [], _∷_, map}
 use Prim.Native.Nat.{ℕ}
@@ -60,6 +61,15 @@ conditional =
     16 ∷ 1 ∷ 0 ∷ 0 ∷ 1 ∷ 0 ∷ 2 ∷ 0 ∷ 0 ∷ 0 ∷ 0 ∷ 0 ∷ 10 ∷ 0 ∷ 0 ∷ 0 ∷
     2 ∷ 0 ∷ 0 ∷ 0 ∷ 0 ∷ 0 ∷ 1 ∷ 0 ∷ 2 ∷ 0 ∷ 0 ∷ 0 ∷ 10 ∷ 0 ∷ 0 ∷ 0 ∷ []
 
+-- `/* @__PURE__ */ (() => {})(f())`, f() flagged, with annotations and tree-shake-only on: it stays.
+abbrev called : List ℕ
+called =
+    85 ∷ 88 ∷ 84 ∷ 1 ∷ 0 ∷ 3 ∷ 4 ∷ 0 ∷
+    16 ∷ 32 ∷ 0 ∷ 0 ∷ 2 ∷ 0 ∷ 4 ∷ 0 ∷ 0 ∷ 0 ∷ 0 ∷ 0 ∷ 16 ∷ 0 ∷ 0 ∷ 0 ∷
+    4 ∷ 0 ∷ 0 ∷ 0 ∷ 0 ∷ 0 ∷ 1 ∷ 0 ∷ 0 ∷ 0 ∷ 0 ∷ 0 ∷ 17 ∷ 0 ∷ 0 ∷ 0 ∷
+    16 ∷ 1 ∷ 0 ∷ 0 ∷ 1 ∷ 0 ∷ 2 ∷ 0 ∷ 0 ∷ 0 ∷ 0 ∷ 0 ∷ 27 ∷ 0 ∷ 0 ∷ 0 ∷
+    2 ∷ 0 ∷ 0 ∷ 0 ∷ 0 ∷ 0 ∷ 1 ∷ 0 ∷ 1 ∷ 0 ∷ 0 ∷ 0 ∷ 27 ∷ 0 ∷ 0 ∷ 0 ∷ []
+
 -- `a && b`, which Reduce does not take.
 abbrev logical : List ℕ
 logical =
@@ -78,6 +88,7 @@ rows =
     record { file = removable; text = ascii "before after\nrecords 1 0\n" } ∷
     record { file = ended; text = ascii "before after\n1/16/0 -\nrecords 3 0\n" } ∷
     record { file = conditional; text = ascii "before after\n0/16/0 0/16/0\n10/16/0 10/16/0\nrecords 6 5\n" } ∷
+    record { file = called; text = ascii "before after\n27/16/0 27/16/0\nrecords 4 4\n" } ∷
     record { file = logical; text = ascii "refused 6\n" } ∷ []
 
 pub rows-hold : map (λ r. columns (r .file)) rows ≡ map (λ r. r .text) rows
@@ -88,8 +99,8 @@ unfolding columns table sideBySide lines line column recordsLine refusedLine dec
     refusal.markOk refusal.versionOk refusal.settingsOk refusal.countOk refusal.recordsOk refusal.allTaken refusal.childrenEnd
     refusal.shapeAt refusal.shapeOk refusal.decode refusal.treeOf refusal.additionsOk refusal.depthOk refusal.refusal
     Settings.annotations Settings.treeShakeOnly Settings.countsAsYes Handler.handler Handler.isKind
-    Facts.flagged Facts.possibleSymbol Facts.annotated Facts.listed Facts.summaryFree Facts.pureNew Facts.pureCall
-    Facts.hasSideEffectsOrPreservedIife Facts.testIsYes Made.flagOf Made.makeLogical Made.withChildren Class.hasStaticValue Class.nonemptyStaticBlock Reduce.reduceRule Reduce.reduce
+    Facts.flagged Facts.possibleSymbol Facts.annotated Facts.listed Facts.summaryFree Facts.pureNew Facts.pureCallBy01
+    Facts.preservedIife Facts.pureCall Facts.hasSideEffectsOrPreservedIife Facts.testIsYes Made.flagOf Made.makeLogical Made.withChildren Class.hasStaticValue Class.nonemptyStaticBlock Reduce.reduceRule Reduce.reduce
     Effects.itself Effects.evaluateRule Effects.evaluate Effects.effects
     effects.effectListGiven reducer.left reducer.rewritten reducer.answerListGiven
 rows-hold = refl

@@ -4,12 +4,13 @@ use std::iter;
 
 use port::{Limits, Tree};
 
+use crate::agreeing;
+use crate::called;
 use crate::damage::Damaged;
 use crate::file;
 use crate::hits::{self, Hits};
 use crate::listing_hits;
 use crate::logicals;
-use crate::never_symbol;
 use crate::oracle::Oracle;
 use crate::random::Random;
 use crate::recorded;
@@ -71,9 +72,12 @@ pub struct Tally {
     pub entries: u64,
     /// Files with logicals, for List effects alone.
     pub listed: u64,
-    /// Trees whose recorded facts are not what the rules read (02, N9): the copy with "no" recorded on
-    /// the six is held to the oracle in their stead.
+    /// Trees whose facts the oracle reads otherwise than document 02: their copies are held to it in their
+    /// stead.
     pub left_out: u64,
+    /// Of these, those with a call that tree-shake-only keeps before purity (02, N5). The others have one
+    /// of the six of unknown symbol (N9), and these may have.
+    pub left_out_calls: u64,
     /// Trees, with no place that counts as yes.
     pub premise_true: u64,
     pub premise_false: u64,
@@ -126,7 +130,7 @@ impl<'s> Comparator<'s> {
             self.tally.kept += 1;
             self.kept(file, &answer)?;
         }
-        let (tree, copy) = (accepted_by_port(file, Limits::REDUCE)?, WithNo::of(file));
+        let (tree, copy) = (accepted_by_port(file, Limits::REDUCE)?, Agreeing::of(file));
         let marks = port::outcomes(tree);
         self.tally.hits.add(&hits::of_tree(tree, &marks));
         let same = copy.premises()?;
@@ -153,7 +157,7 @@ impl<'s> Comparator<'s> {
         of_copy: Option<bool>,
     ) -> Result<(), Difference> {
         self.check(of_copy.is_none_or(|same| same == holds), || {
-            format!("under {yes:?} the premise is {holds}, with no recorded {of_copy:?}")
+            format!("under {yes:?} the premise is {holds}, of the copy {of_copy:?}")
         })?;
         for &side in &self.sides[1..] {
             let (name, theirs) = (side.name(), side.premise(file, yes));
@@ -164,41 +168,42 @@ impl<'s> Comparator<'s> {
         Ok(())
     }
 
-    /// The effects are those of the copy, and these are as they were when a possible symbol was what is
-    /// not recorded as none.
+    /// The effects are those of the copy, and these are as they were by document 01 alone.
     fn listed_as_copy(
         &mut self,
-        copy: &WithNo,
+        copy: &Agreeing,
         yes: Option<&[u32]>,
         effects: &[u64],
     ) -> Result<(), Difference> {
         if copy.differs {
             let same = self.effects_of(&copy.file, yes, 0)?;
             self.check(same == effects, || {
-                format!("under {yes:?} effects {effects:?}, with no recorded {same:?}")
+                format!("under {yes:?} effects {effects:?}, of the copy {same:?}")
             })?;
         }
         let tree = accepted_by_port(&copy.file, Limits::LIST_EFFECTS)?;
         let before = recorded::effects(tree, yes.unwrap_or_default());
         self.check(before == effects, || {
-            format!("under {yes:?} effects {effects:?}, as recorded {before:?}")
+            format!("under {yes:?} effects {effects:?}, by document 01 {before:?}")
         })
     }
 
-    /// The answer is the copy's, but for the recorded bits themselves. The oracle, which goes by what is
-    /// recorded, is asked about the copy.
-    fn reduced_as_copy(&mut self, answer: Vec<u8>, copy: &WithNo) -> Result<(), Difference> {
+    /// The answer is the copy's, but for the recorded bits themselves. The oracle is asked about the copy.
+    fn reduced_as_copy(&mut self, answer: Vec<u8>, copy: &Agreeing) -> Result<(), Difference> {
         if !copy.differs {
             return self.wait_for_oracle(&copy.file, answer);
         }
         self.tally.left_out += 1;
+        self.tally.left_out_calls += u64::from(copy.calls);
         let (reduction, of_copy) = self.reduce(&copy.file, file::output_room(&copy.file))?;
         self.not_refused("Reduce", reduction.number)?;
         if !of_copy.is_empty() {
             self.kept(&copy.file, &of_copy)?;
         }
-        let same = never_symbol::answer_with_no(&answer) == never_symbol::answer_with_no(&of_copy);
-        self.check(same, || reduced_otherwise("with no recorded it", &of_copy, &answer))?;
+        let same = agreeing::answer(&answer) == agreeing::answer(&of_copy);
+        self.check(same, || {
+            reduced_otherwise("the same side, asked about the copy,", &of_copy, &answer)
+        })?;
         self.wait_for_oracle(&copy.file, of_copy)
     }
 
@@ -215,7 +220,7 @@ impl<'s> Comparator<'s> {
         self.check(reduction.number == 6, || format!("refused by {}, not 6", reduction.number))?;
         let conditionals = logicals::as_conditionals(file);
         let tree = accepted_by_port(file, Limits::LIST_EFFECTS)?;
-        let copy = WithNo::of(file);
+        let copy = Agreeing::of(file);
         for yes in iter::once(None).chain(lists.iter().map(|yes| Some(&yes[..]))) {
             self.tally.hits.add(&listing_hits::of_list(tree, yes.unwrap_or_default()));
             let effects = self.effects_of(file, yes, 0)?;
@@ -480,17 +485,19 @@ impl<'s> Comparator<'s> {
     }
 }
 
-/// A file with "no" recorded on each of the six that can never be a symbol.
-struct WithNo {
+/// The copy of a file, whose facts the oracle reads as document 02 does.
+struct Agreeing {
     file: Vec<u8>,
     /// From the file that it was made of.
     differs: bool,
+    /// That file has a call which tree-shake-only keeps before purity.
+    calls: bool,
 }
 
-impl WithNo {
-    fn of(file: &[u8]) -> WithNo {
-        let copy = never_symbol::with_no(file);
-        WithNo { differs: copy != file, file: copy }
+impl Agreeing {
+    fn of(file: &[u8]) -> Agreeing {
+        let copy = agreeing::copy(file);
+        Agreeing { differs: copy != file, file: copy, calls: !called::calls(file).is_empty() }
     }
 
     /// The copy's premise under a list, if it differs.

@@ -4,9 +4,10 @@
 //! bytes, the file, the length of the oracle's answer in 4 bytes (0: removable) and the answer.
 //! Numbers are little-endian.
 
+use crate::agreeing;
+use crate::called_rows;
 use crate::conditional_rows;
 use crate::hits::{self, HITS, Hit, Hits};
-use crate::never_symbol;
 use crate::never_symbol_rows;
 use crate::oracle::Oracle;
 use crate::random::Random;
@@ -31,35 +32,37 @@ pub struct Case {
 }
 
 /// Rows A to L, the corners, then seeded trees until every handler's every outcome is met often
-/// enough; then the rows of conditionals and seeded trees with conditionals, and the rows of what can
-/// never be a symbol. "Runs are held against the Rust on trees whose facts already agree" (02, N9): all
-/// but the last record "no" on each of the six.
+/// enough; then the rows of conditionals and seeded trees with conditionals: all of facts that the oracle
+/// reads as document 02 does, so that the answers are the oracle's. Last the rows of what can never be a
+/// symbol, and of called functions, whose answers are written by hand.
 pub fn make(oracle: &mut Oracle, seed: u64) -> io::Result<Vec<Case>> {
     let mut files: Vec<Vec<u8>> = rows::rows().iter().map(|(_, tree, _)| tree.file()).collect();
     files.extend(rows::corners().iter().map(|(_, tree, _)| tree.file()));
     files.extend(sample(seed, trees::WITHOUT_CONDITIONALS, &HITS[hits::OF_01]));
     files.extend(conditional_rows::rows().iter().map(|(_, tree, _)| tree.file()));
     files.extend(sample(seed, trees::COMPOUNDS, &HITS[hits::OF_CONDITIONALS]));
-    files.iter_mut().for_each(|file| never_symbol::record_no(file));
+    files.iter_mut().for_each(|file| agreeing::record(file));
     let answers = oracle.reduce(&files)?;
     let cases = files.into_iter().zip(answers).map(|(file, answer)| Case { file, answer });
-    Ok(cases.chain(of_unknown_symbol(oracle)?).collect())
+    Ok(cases.chain(by_hand(oracle)?).collect())
 }
 
-/// The rows, whose answers are written by hand: the oracle's to the copies with "no" recorded on each of the
-/// six, but for the recorded bits themselves.
-fn of_unknown_symbol(oracle: &mut Oracle) -> io::Result<Vec<Case>> {
-    let rows = never_symbol_rows::rows().into_iter();
-    let cases: Vec<Case> = rows
-        .map(|(_, tree, answer)| Case {
-            file: tree.file(),
-            answer: answer.map_or_else(Vec::new, |answer| answer.file()),
-        })
-        .collect();
-    let copies: Vec<Vec<u8>> = cases.iter().map(|case| never_symbol::with_no(&case.file)).collect();
+/// The rows with answers written by hand: the oracle's to the copies, but for the recorded bits themselves.
+fn by_hand(oracle: &mut Oracle) -> io::Result<Vec<Case>> {
+    let never_symbols = never_symbol_rows::rows().into_iter().map(|(_, tree, answer)| Case {
+        file: tree.file(),
+        answer: answer.map_or_else(Vec::new, |answer| answer.file()),
+    });
+    let called = called_rows::rows().into_iter().map(|row| Case {
+        file: row.tree.file_under(row.settings),
+        answer: row.left.file_under(row.settings),
+    });
+    let cases: Vec<Case> = never_symbols.chain(called).collect();
+    let copies: Vec<Vec<u8>> = cases.iter().map(|case| agreeing::copy(&case.file)).collect();
     let theirs = oracle.reduce(&copies)?;
-    let with_no = never_symbol::answer_with_no;
-    let same = |(case, theirs): (&Case, &Vec<u8>)| with_no(&case.answer) == with_no(theirs);
+    let same = |(case, theirs): (&Case, &Vec<u8>)| {
+        agreeing::answer(&case.answer) == agreeing::answer(theirs)
+    };
     match cases.iter().zip(&theirs).position(|both| !same(both)) {
         Some(row) => Err(io::Error::other(format!("the oracle answers otherwise to row {row}"))),
         None => Ok(cases),
@@ -74,7 +77,7 @@ fn sample(seed: u64, compounds: &'static [u8], outcomes: &[(Hit, &str)]) -> Vec<
     while outcomes.iter().any(|&(hit, _)| met.count(hit) < CASES_EACH) {
         let room = random.between(1, ROOM);
         let mut file = trees::small_file(&mut random, compounds, room);
-        never_symbol::record_no(&mut file);
+        agreeing::record(&mut file);
         if random.chance(128) {
             trees::make_premise_true(&mut file, &[vec![]]);
         }

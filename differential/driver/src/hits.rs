@@ -98,7 +98,7 @@ hits! {
     CallSummaryFree "call: pure as summary free alone"
     CallAnnotationsOff "call: annotated with annotations off, impure"
     CallSummaryOfNoIdentifier "call: summary free, callee no identifier, impure"
-    CallPureFunction "call: pure, of a function under tree-shake-only"
+    CallPureFunction "call: pure, of a function or arrow, tree-shake-only off"
     CallSpreadWrapped "pure call or new: a flagged spread is made an array"
     CallSpreadGoes "pure call or new: an unflagged spread goes"
     CallImpureRemoved "impure call: removed"
@@ -107,6 +107,7 @@ hits! {
     NewRemoved "pure new: removed"
     NewOne "pure new: one left"
     NewSeveral "pure new: several"
+    NewPureFunction "new: pure, of a function or arrow under tree-shake-only"
     NewImpureFlagged "impure new: stays, flagged"
     NewImpureUnflagged "impure new: stays, unflagged"
     ClassDecorated "class: stays, decorated"
@@ -193,6 +194,18 @@ hits! {
     YesAdditionBefore8 "refused by 5: the same in a file that is too deep"
     YesAdditionAfter7 "refused by 7: the same in a file of a wrong shape"
     YesAdditionAfter6 "refused by 6: the same in a file with a left-out kind"
+    CalledAnnotated "called function: stays, annotated alone"
+    CalledListed "called function: stays, listed alone"
+    CalledBoth "called function: stays, annotated and listed"
+    CalledFunction "called function: stays, a function"
+    CalledArrow "called function: stays, an arrow"
+    CalledFlagged "called function: stays, flagged"
+    CalledUnflagged "called function: stays, unflagged"
+    CalledWithReducible "called function: stays with an argument that reducing would change"
+    CalledAsArgument "called function: is an argument of a pure call or new"
+    CalledAnnotationsOff "call of a function under tree-shake-only: annotated with annotations off"
+    ListedCalledFlagged "listing: a called function, its callee, arguments and itself"
+    ListedCalledUnflagged "listing: a called function, its callee and arguments"
 }
 
 /// The outcomes of document 01's handlers.
@@ -250,6 +263,11 @@ fn unknown(tree: Tree, i: usize) -> Option<Never> {
         never_symbol::by_head(tree.kind(i), tree.sub(i))
     };
     never.filter(|_| tree.symbol(i) == 0)
+}
+
+/// A call that is pure by document 01, and that tree-shake-only keeps before purity (02, N5).
+pub fn is_called_function(tree: Tree, i: usize) -> bool {
+    tree.kind(i) == kind::CALL && tree.is_pure_by_01(i) && !tree.is_pure(i)
 }
 
 /// How often each outcome was met.
@@ -555,7 +573,12 @@ impl Counter<'_> {
         let (annotated, listed, summary) =
             (tree.facts(i) & 32 != 0, tree.facts(i) & 64 != 0, tree.facts(i) & 128 != 0);
         if !tree.is_pure(i) {
+            if is_called_function(tree, i) {
+                return self.called_function(i, annotated, listed);
+            }
+            let function = tree.is_preserved_iife(i);
             self.hits.hit_if(annotated, Hit::CallAnnotationsOff);
+            self.hits.hit_if(annotated && function, Hit::CalledAnnotationsOff);
             self.hits.hit_if(summary, Hit::CallSummaryOfNoIdentifier);
             return self.hits.hit(match (tree.flagged(i), self.marks.is_kept(i)) {
                 (true, _) => Hit::CallImpureStays,
@@ -566,7 +589,8 @@ impl Counter<'_> {
         self.hits.hit_if(annotated && !listed && !summary, Hit::CallAnnotated);
         self.hits.hit_if(!annotated && listed && !summary, Hit::CallListed);
         self.hits.hit_if(!annotated && !listed && summary, Hit::CallSummaryFree);
-        self.hits.hit_if(tree.is_preserved_iife(i), Hit::CallPureFunction);
+        let function = matches!(tree.kind(i + 1), kind::FUNCTION | kind::ARROW);
+        self.hits.hit_if(function, Hit::CallPureFunction);
         self.hits.hit(match self.marks.outcome(i) {
             Outcome::Removed => Hit::CallRemoved,
             Outcome::One => Hit::CallOne,
@@ -575,11 +599,29 @@ impl Counter<'_> {
         self.arguments(i);
     }
 
+    /// A call that tree-shake-only keeps before purity.
+    fn called_function(&mut self, i: usize, annotated: bool, listed: bool) {
+        let (tree, marks) = (self.tree, self.marks);
+        self.hits.hit(match (annotated && tree.annotations(), listed) {
+            (true, true) => Hit::CalledBoth,
+            (true, false) => Hit::CalledAnnotated,
+            _ => Hit::CalledListed,
+        });
+        let function = tree.kind(i + 1) == kind::FUNCTION;
+        self.hits.either(function, Hit::CalledFunction, Hit::CalledArrow);
+        self.hits.either(tree.flagged(i), Hit::CalledFlagged, Hit::CalledUnflagged);
+        let changes = |argument: usize| marks.outcome(argument) != Outcome::Whole;
+        let reducible = tree.children(i).skip(1).any(changes);
+        self.hits.hit_if(reducible, Hit::CalledWithReducible);
+    }
+
     fn new_expression(&mut self, i: usize) {
-        if !self.tree.is_pure(i) {
-            let flagged = self.tree.flagged(i);
+        let tree = self.tree;
+        if !tree.is_pure(i) {
+            let flagged = tree.flagged(i);
             return self.hits.either(flagged, Hit::NewImpureFlagged, Hit::NewImpureUnflagged);
         }
+        self.hits.hit_if(tree.is_preserved_iife(i), Hit::NewPureFunction);
         self.hits.hit(match self.marks.outcome(i) {
             Outcome::Removed => Hit::NewRemoved,
             Outcome::One => Hit::NewOne,
@@ -594,6 +636,8 @@ impl Counter<'_> {
                 let flagged = self.tree.flagged(argument);
                 self.hits.either(flagged, Hit::CallSpreadWrapped, Hit::CallSpreadGoes);
             } else {
+                let called = is_called_function(self.tree, argument);
+                self.hits.hit_if(called, Hit::CalledAsArgument);
                 self.expression(argument);
             }
         }

@@ -2,7 +2,10 @@
 
 #![forbid(unsafe_code)]
 
+pub mod agreeing;
 pub mod bench;
+pub mod called;
+pub mod called_rows;
 pub mod compare;
 pub mod conditional_rows;
 pub mod conditionals;

@@ -1,9 +1,9 @@
-//! How often the listing ran each side of a test, by the places that count as yes, and where it read one of
-//! the six of unknown symbol as none.
+//! How often the listing ran each side of a test, by the places that count as yes, where it read one of the
+//! six of unknown symbol as none, and where it came to a call that tree-shake-only keeps before purity.
 
 use port::{Tree, kind, sub};
 
-use crate::hits::{Hit, Hits, LISTED_CHILD, LISTED_LEFT, LISTED_RIGHT};
+use crate::hits::{Hit, Hits, LISTED_CHILD, LISTED_LEFT, LISTED_RIGHT, is_called_function};
 
 /// The tests that listing this tree under this list comes to.
 pub fn of_list(tree: Tree, yes: &[u32]) -> Hits {
@@ -31,6 +31,14 @@ impl Walk<'_> {
         match tree.kind(i) {
             kind::LOGICAL | kind::CONDITIONAL => self.test(i),
             kind::CALL | kind::NEW if tree.is_pure(i) => self.nodes(tree.children(i).skip(1)),
+            kind::CALL if is_called_function(tree, i) => {
+                self.hits.hit(if tree.flagged(i) {
+                    Hit::ListedCalledFlagged
+                } else {
+                    Hit::ListedCalledUnflagged
+                });
+                self.nodes(tree.children(i));
+            }
             kind::CLASS => {
                 self.nodes(tree.heritage(i).into_iter());
                 self.nodes(tree.elements(i).filter_map(|e| tree.computed_key(e)));

@@ -71,18 +71,6 @@ pub fn record_no(file: &mut [u8]) {
     record(file, NO, |_| true);
 }
 
-/// The same file with "no" recorded on each of the six.
-pub fn with_no(file: &[u8]) -> Vec<u8> {
-    let mut with_no = file.to_vec();
-    record_no(&mut with_no);
-    with_no
-}
-
-/// The same of an answer, which is empty if the tree is removable.
-pub fn answer_with_no(answer: &[u8]) -> Vec<u8> {
-    if answer.is_empty() { Vec::new() } else { with_no(answer) }
-}
-
 /// Takes back each "yes" on one of the six, which would be refused.
 pub fn take_back_yes(file: &mut [u8]) {
     record(file, UNKNOWN, |symbol| symbol == YES);

@@ -1,5 +1,5 @@
-//! The list of effects as it was before "what can never be a symbol" (02, N9): a possible symbol is what is
-//! not recorded as none.
+//! The list of effects by document 01 alone: as it was before "what can never be a symbol" (02, N9), a possible
+//! symbol being what is not recorded as none, and before "called functions under tree-shake-only" (N5).
 
 use port::{Tree, kind, sub};
 
@@ -42,7 +42,9 @@ impl Listing<'_> {
                 self.node(child);
                 self.coercion(child);
             }),
-            (kind::CALL | kind::NEW, _) if tree.is_pure(i) => self.nodes(tree.children(i).skip(1)),
+            (kind::CALL | kind::NEW, _) if tree.is_pure_by_01(i) => {
+                self.nodes(tree.children(i).skip(1));
+            }
             (kind::CLASS, _) => self.class(i),
             (kind::LOGICAL | kind::CONDITIONAL, _) => {
                 self.node(i + 1);

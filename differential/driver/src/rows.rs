@@ -31,9 +31,15 @@ impl Node {
 
     /// The tree's file with all settings off.
     pub fn file(&self) -> Vec<u8> {
+        self.file_under(0)
+    }
+
+    /// The tree's file with these settings.
+    pub fn file_under(&self, settings: u8) -> Vec<u8> {
         let mut records = Vec::new();
         self.write(&mut records);
-        let mut file = b"UXT\x01\x00\x00".to_vec();
+        let mut file = b"UXT\x01\x00".to_vec();
+        file.push(settings);
         file.extend((records.len() as u16).to_le_bytes());
         file.extend(records.concat());
         file

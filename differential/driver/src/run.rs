@@ -2,6 +2,7 @@
 
 use port::Limits;
 
+use crate::called_rows;
 use crate::compare::{Comparator, Difference, Tally};
 use crate::conditional_rows;
 use crate::damage::{self, Damaged};
@@ -123,6 +124,17 @@ pub fn never_symbol_rows(comparator: &mut Comparator) -> Result<(), Difference> 
     Ok(())
 }
 
+/// Rows of document 02, N5: what is left and listed of calls of functions and arrows.
+pub fn called_rows(comparator: &mut Comparator) -> Result<(), Difference> {
+    for row in called_rows::rows() {
+        let file = row.tree.file_under(row.settings);
+        let named = |seen: Difference| format!("{}: {seen}", row.words);
+        comparator.answers(&file, &row.left.file_under(row.settings)).map_err(named)?;
+        comparator.effects(&file, &[], &row.effects).map_err(named)?;
+    }
+    Ok(())
+}
+
 /// The oracle's answers, as listed.
 pub fn fixed_list(comparator: &mut Comparator, cases: &[Case]) -> Result<(), Difference> {
     for (i, case) in cases.iter().enumerate() {
@@ -194,6 +206,7 @@ pub fn met_enough(tally: &Tally) -> Result<(), Difference> {
     }
     let others = [
         ("trees whose facts do not agree", tally.left_out),
+        ("trees with a call that tree-shake-only keeps before purity", tally.left_out_calls),
         ("trees whose facts agree", tally.trees - tally.left_out),
         ("premise true", tally.premise_true),
         ("premise not true", tally.premise_false),

@@ -14,6 +14,7 @@ pub fn file(random: &mut Random) -> Vec<u8> {
         0 => grower.wide(Limits::REDUCE.records),
         1..=10 => grower.deep(Limits::REDUCE.depth),
         11..=70 => grower.never_symbols(),
+        71..=90 => grower.called_functions(),
         _ => grower.any(),
     }
     grower.file()
@@ -88,9 +89,13 @@ fn walked(random: &mut Random, file: &[u8], i: usize, under: u8) -> [u8; 3] {
         facts = facts & !6 | 2;
     }
     let callee_is_leaf = || file::record(file, i + 1)[0] <= kind::THIS;
+    // Tree-shake-only keeps such a call, whatever its facts.
+    let callee_is_function =
+        || matches!(file::record(file, i + 1)[0], kind::FUNCTION | kind::ARROW);
     match kind {
         kind::UNARY if sub == sub::OTHER_UNARY => [kind, facts, sub::NOT],
         kind::BINARY if random.chance(192) => [kind, facts, sub::COMPARISON],
+        kind::CALL if callee_is_function() => [kind::NEW, facts & 127 | LISTED, sub],
         kind::CALL | kind::NEW if callee_is_leaf() => [kind, facts | LISTED, sub],
         kind::CALL | kind::NEW => [kind::ARRAY, facts & 31, 0],
         kind::SPREAD if random.chance(64) => [kind, facts, sub],
@@ -100,7 +105,13 @@ fn walked(random: &mut Random, file: &[u8], i: usize, under: u8) -> [u8; 3] {
     }
 }
 
-/// The bit of a call's or new's facts that makes it pure under all settings.
+/// A bit of the settings.
+const TREE_SHAKE_ONLY: u8 = 2;
+
+/// The bit of facts that counts where annotations do.
+const ANNOTATED: u8 = 32;
+
+/// The bit of facts that makes a `new`, or a call of what is no function, pure under all settings.
 const LISTED: u8 = 64;
 
 /// A file whose tree is exactly `depth` deep.
@@ -286,6 +297,53 @@ impl<'r> Grower<'r> {
             }
         }
         self.close(at, count);
+    }
+
+    /// Where tree-shake-only keeps calls before purity: calls of functions and arrows, alone, as arguments
+    /// of pure calls and news, and under a node whose clear flag is read.
+    fn called_functions(&mut self) {
+        self.temper.settings |= TREE_SHAKE_ONLY;
+        let at = self.open(kind::SEQUENCE, 0);
+        let count = self.random.between(1, 6);
+        for _ in 0..count {
+            match self.random.below(8) {
+                0 => self.unflagged_over_called(),
+                1..=3 => self.pure_of_called(),
+                _ => self.called_function(),
+            }
+        }
+        self.close(at, count);
+    }
+
+    /// The clear flag of the unary is not true.
+    fn unflagged_over_called(&mut self) {
+        let at = self.open(kind::UNARY, sub::OTHER_UNARY);
+        self.records[at][1] &= !1;
+        self.called_function();
+        self.records[at + 1][1] |= 1;
+        self.close(at, 1);
+    }
+
+    fn pure_of_called(&mut self) {
+        let kind = self.random.pick(&[kind::CALL, kind::NEW]);
+        let at = self.open(kind, 0);
+        self.records[at][1] |= LISTED;
+        self.leaf(kind::IDENTIFIER, 0);
+        self.called_function();
+        self.expression(4, 4);
+        self.close(at, 3);
+    }
+
+    /// A call of a function or arrow, or a `new`; most are annotated or listed.
+    fn called_function(&mut self) {
+        let kind = self.random.pick(&[kind::CALL, kind::CALL, kind::CALL, kind::NEW]);
+        let at = self.open(kind, 0);
+        let marked = self.random.pick(&[0, ANNOTATED, LISTED, ANNOTATED | LISTED]);
+        self.records[at][1] = self.records[at][1] & 31 | marked;
+        let function = self.random.pick(&[kind::FUNCTION, kind::ARROW]);
+        self.leaf(function, 0);
+        let arguments = self.list(8, 3, 1, |s, share| s.spread_or_expression(64, share, 4));
+        self.close(at, 1 + arguments);
     }
 
     fn template_of_six(&mut self) {

@@ -1,5 +1,6 @@
 //! Document 01 in plain Rust, over the flat bytes and without allocation, with the requests of
-//! document 02 that have landed: N1, conditionals, and N9, what can never be a symbol.
+//! document 02 that have landed: N1, conditionals, N9, what can never be a symbol, and N5, called
+//! functions under tree-shake-only.
 //!
 //! The port is the baseline for speed and the reference for refusals and effects. It is written
 //! from the two documents, in the order of 01's sections: the tree file (`tree`), the refusals

@@ -199,10 +199,10 @@ impl<'a> Tree<'a> {
         self.sub(i) == sub::TYPEOF && self.kind(i + 1) == kind::IDENTIFIER
     }
 
-    /// Of a call or new: "pure means annotated with setting bit 0 on, or listed, or (call only,
-    /// callee an identifier) summary free."
+    /// Of a call or new, by document 01: "pure means annotated with setting bit 0 on, or listed, or
+    /// (call only, callee an identifier) summary free."
     #[inline]
-    pub fn is_pure(self, i: usize) -> bool {
+    pub fn is_pure_by_01(self, i: usize) -> bool {
         let facts = self.facts(i);
         facts & 32 != 0 && self.annotations()
             || facts & 64 != 0
@@ -211,8 +211,14 @@ impl<'a> Tree<'a> {
                 && self.kind(i + 1) == kind::IDENTIFIER
     }
 
-    /// Of an impure call: "not [removable] if tree-shake-only is on and the callee is a function
-    /// or arrow."
+    /// "Our bundler users expect tree-shake-only to keep every such call. That rule now stands before
+    /// purity" (02, N5).
+    #[inline]
+    pub fn is_pure(self, i: usize) -> bool {
+        self.is_pure_by_01(i) && !(self.kind(i) == kind::CALL && self.is_preserved_iife(i))
+    }
+
+    /// Of a call: "tree-shake-only is on and the callee is a function or arrow."
     #[inline]
     pub fn is_preserved_iife(self, i: usize) -> bool {
         self.tree_shake_only() && matches!(self.kind(i + 1), kind::FUNCTION | kind::ARROW)

@@ -7,6 +7,12 @@
 //! every answer is broken, with no other side at hand; where the oracle can see it, until it differs
 //! from the oracle; and how many cases of the fixed list it takes. It fails if one is not found by all
 //! that its edit names, of which the oracle counts where it is given, or if the port itself is found.
+//!
+//! `wrong before [--trees N] [--seed S] [--oracle PATH]` holds the port to what it was before called
+//! functions under tree-shake-only (02, N5), which is one of the wrong ports: they may differ on a tree that
+//! holds such a call, and on no other. The oracle, where it is given, answers these as the port did before.
+
+mod before;
 
 use driver::compare::{Comparator, Difference};
 use driver::fixed::Case;
@@ -14,7 +20,7 @@ use driver::oracle::Oracle;
 use driver::random::Random;
 use driver::run::{self, Drawn};
 use driver::side::{Answer, Listing, Port, Reduction, Side};
-use driver::{derived, facts, file, fixed, never_symbol};
+use driver::{agreeing, derived, facts, file, fixed};
 use port::Limits;
 use std::fmt::{self, Display, Formatter};
 use std::panic::{self, AssertUnwindSafe};
@@ -102,6 +108,16 @@ fn main() -> ExitCode {
     let number = |name: &str| value(name).and_then(|text| text.parse().ok());
     let trees =
         Trees { seed: number("--seed").unwrap_or(1), count: number("--trees").unwrap_or(20_000) };
+    if words.get(1).is_some_and(|word| word == "before") {
+        let oracle = value("--oracle").map(|path| Oracle::start(path).expect("the oracle"));
+        return match before::run(before_n5().side, trees, oracle) {
+            Ok(()) => ExitCode::SUCCESS,
+            Err(seen) => {
+                println!("{seen}");
+                ExitCode::FAILURE
+            }
+        };
+    }
     let oracle = value("--oracle").map(|path| OracleSays::ask(path, trees).expect("the oracle"));
     let list = fixed::decode(fixed::LIST).expect("the fixed list");
     let against = Against { trees, oracle, list };
@@ -116,6 +132,12 @@ fn main() -> ExitCode {
     }
     println!("wrong ports: {} of {} found", all.len() - missed.len(), all.len());
     if port_passes && missed.is_empty() { ExitCode::SUCCESS } else { ExitCode::FAILURE }
+}
+
+/// The port by document 01's purity.
+fn before_n5() -> Wrong {
+    let is_it = |wrong: &Wrong| wrong.side.name() == "called_purity_first";
+    all().into_iter().find(is_it).expect("an edit of that name")
 }
 
 /// What the wrong ports are held to, beside the port.
@@ -212,8 +234,8 @@ fn held(
     derived::refused(comparator, random)
 }
 
-/// The oracle's answers to copies of the same trees, with "no" recorded on each of the six that can never
-/// be a symbol, and to as many Derived questions.
+/// The oracle's answers to copies of the same trees, whose facts it reads as document 02 does, and to as
+/// many Derived questions.
 struct OracleSays {
     trees: Trees,
     reduced: Vec<Vec<u8>>,
@@ -226,7 +248,7 @@ type Question = (Vec<u8>, Vec<u8>);
 impl OracleSays {
     fn ask(path: &str, trees: Trees) -> io::Result<OracleSays> {
         let mut oracle = Oracle::start(path)?;
-        let copy = |i: u64| never_symbol::with_no(&run::tree(trees.seed, i).file);
+        let copy = |i: u64| agreeing::copy(&run::tree(trees.seed, i).file);
         let files: Vec<Vec<u8>> = (0..trees.count).map(copy).collect();
         let reduced = oracle.reduce(&files)?;
         let mut random = Random::new(trees.seed);
@@ -239,13 +261,12 @@ impl OracleSays {
     /// How many trees it takes until the side differs from the oracle; on the tree itself, but for the
     /// recorded bits.
     fn search(&self, side: &dyn Side) -> Option<u64> {
-        let with_no = never_symbol::answer_with_no;
         first(self.trees.count, |i| {
             let Drawn { file, .. } = run::tree(self.trees.seed, i);
             let ((scopes, ancestors), yes) = &self.derived[i as usize];
-            let (copy, theirs) = (never_symbol::with_no(&file), &self.reduced[i as usize]);
+            let (copy, theirs) = (agreeing::copy(&file), &self.reduced[i as usize]);
             reduced(side, &copy) == *theirs
-                && with_no(&reduced(side, &file)) == with_no(theirs)
+                && agreeing::answer(&reduced(side, &file)) == agreeing::answer(theirs)
                 && (side.derived(scopes, ancestors) == Answer::Yes) == *yes
         })
     }

@@ -1,10 +1,11 @@
 -- The laws of the named predicates, and of the nodes that rules make. Where the definition of a predicate changes, its laws here are
 -- proved anew; the other proofs rest on these laws, and on the predicates' names.
 use mathlib.Core.Bool.{Bool, true, false, not, _&&_, _||_, true≢false}
-use mathlib.Core.List.{List, _∷_}
-use mathlib.Core.Path.{_≡_, refl, ap, ap₂}
+use mathlib.Core.List.{List, [], _∷_}
+use mathlib.Core.Path.{_≡_, refl, sym, ap, ap₂}
 use Prim.Native.Nat.{ℕ}
 use lib.Dec.{eqb}
+use lib.ListN.{take}
 use borrow.Author.Tests.{eqb-true, not-true}
 use Rattle.tree.specs.Below.{and-left, and-right}
 use Rattle.tree.specs.Tree.{Place, Head, Tree, trees, trees-forest, recur, each, All}
@@ -13,9 +14,9 @@ use Rattle.tree.specs.Record.{symbolPair, symbolYes, neverSymbolAlone}
 use Rattle.tree.specs.Symbol.{isAddition, stringFact, isStringRule, isString, isStringAddition, neverSymbol, additionAgrees}
 use Rattle.tree.specs.Kind as kind
 use Rattle.rules.specs.Lists.{any, every}
-use Rattle.rules.specs.Settings.{Settings, treeShakeOnly}
-use Rattle.rules.specs.Handler.{Handler, handler, isKind, isLiteral, isSpread, isSequence, isFunction, firstIs}
-use Rattle.rules.specs.Facts.{flagged, clear, possibleSymbol, hasSideEffectsOrPreservedIife, unchangedTemplate, onlySpreads, flaggedChild, testIsYes}
+use Rattle.rules.specs.Settings.{Settings}
+use Rattle.rules.specs.Handler.{Handler, handler, isKind, isLiteral, isIdentifier, isSpread, isSequence, isArrow, isFunction, firstIs}
+use Rattle.rules.specs.Facts.{flagged, clear, possibleSymbol, preservedIife, hasSideEffectsOrPreservedIife, unchangedTemplate, onlySpreads, flaggedChild, testIsYes}
 use Rattle.rules.specs.Made.{makeArray, makeObject, makeTemplate, emptyLiteral, withChildren}
 use Rattle.rules.specs.Addition.{isDroppedRight}
 use Rattle.rules.specs.Class.{elements, staticValue, decoratedClass, decoratedElement, indexSignature, nonemptyStaticBlock, flaggedStaticValue, arrowHeritage, keptClass}
@@ -41,6 +42,10 @@ spread-handled t e = handled t kind.spread e
 pub sequence-handled : (t : Tree) → isSequence t ≡ true → handler (t .head) ≡ Handler.sequence
 unfolding handler
 sequence-handled t e = handled t kind.sequence e
+
+pub call-handled : (t : Tree) → isKind kind.call t ≡ true → handler (t .head) ≡ Handler.call
+unfolding handler
+call-handled t e = handled t kind.call e
 
 pub addition-handled : (t : Tree) → isAddition t ≡ true → handler (t .head) ≡ Handler.addition
 unfolding handler isAddition isKind
@@ -122,7 +127,24 @@ dropped-clear r e = not-true (flagged r) (and-right (not (possibleSymbol r)) (cl
 -- A call that goes is unflagged.
 pub gone-call-clear : (s : Settings) (t : Tree) → hasSideEffectsOrPreservedIife s t ≡ false → flagged t ≡ false
 unfolding hasSideEffectsOrPreservedIife
-gone-call-clear s t e = or-false-l (flagged t) (treeShakeOnly s && firstIs isFunction t) e
+gone-call-clear s t e = or-false-l (flagged t) (preservedIife s t) e
+
+-- A callee that is a function or arrow is no identifier.
+pub function-no-identifier : (t : Tree) → firstIs isFunction t ≡ true → firstIs isIdentifier t ≡ false
+unfolding isKind
+function-no-identifier t e = of-first (trees (t .kids)) e
+  where
+    of-two : (function arrow identifier : Bool) → (function ≡ true → identifier ≡ false) → (arrow ≡ true → identifier ≡ false)
+        → ((function || arrow) || false) ≡ true → (identifier || false) ≡ false
+    of-two true arrow identifier p q h = rw (p refl)
+    of-two false true identifier p q h = rw (q refl)
+    of-two false false identifier p q h = absurd (true≢false (sym h))
+
+    of-first : (ts : List Tree) → any isFunction (take 1 ts) ≡ true → any isIdentifier (take 1 ts) ≡ false
+    of-first [] h = refl
+    of-first (c ∷ cs) h =
+        of-two (isKind kind.function c) (isArrow c) (isIdentifier c)
+        (λ k. rw (eqb-true (c .head .kind) kind.function k)) (λ k. rw (eqb-true (c .head .kind) kind.arrow k)) h
 
 -- An object of spreads alone that goes has no flagged one.
 pub flagged-child : (t : Tree) → flaggedChild t ≡ false → All (λ c. flagged c ≡ false) (trees (t .kids))

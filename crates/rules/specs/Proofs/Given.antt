@@ -1,16 +1,24 @@
--- Reducing reads no place that counts as yes.
+-- Reducing reads no place that counts as yes, nor does a purity.
 use mathlib.Core.List.{List}
 use mathlib.Core.Path.{_≡_, refl}
 use Prim.Native.Nat.{ℕ}
 use Rattle.tree.specs.Tree.{Tree, recur}
 use Rattle.rules.specs.Settings.{Settings, given, annotations, treeShakeOnly, derived}
 use Rattle.rules.specs.Handler.{Handler, handler}
-use Rattle.rules.specs.Facts.{listed, pureNew, pureCall, hasSideEffectsOrPreservedIife}
+use Rattle.rules.specs.Facts.{listed, pureNew, pureCallBy01, preservedIife, pureCall, hasSideEffectsOrPreservedIife}
 use Rattle.rules.specs.Reduce.{Reduced, removeUnusedExpression, reduceRule, reduce}
 
 module _ (places : List ℕ) (s : Settings) where
+  pub pure-new-given : (t : Tree) → pureNew (given places s) t ≡ pureNew s t
+  unfolding annotations listed pureNew
+  pure-new-given t = refl
+
+  pub pure-call-given : (t : Tree) → pureCall (given places s) t ≡ pureCall s t
+  unfolding annotations treeShakeOnly listed pureNew pureCallBy01 preservedIife pureCall
+  pure-call-given t = refl
+
   by-handler : (k : Handler) (t : Tree) (cs : List Reduced) → removeUnusedExpression k (given places s) t cs ≡ removeUnusedExpression k s t cs
-  unfolding annotations treeShakeOnly derived listed pureNew pureCall hasSideEffectsOrPreservedIife
+  unfolding annotations treeShakeOnly derived listed pureNew pureCallBy01 preservedIife pureCall hasSideEffectsOrPreservedIife
   by-handler Handler.leaf t cs = refl
   by-handler Handler.this t cs = refl
   by-handler Handler.voidOrNot t cs = refl

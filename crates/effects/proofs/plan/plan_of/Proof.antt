@@ -1,8 +1,10 @@
 use mathlib.Core.Path.{refl, sym, ap, _∙_}
 use Rattle.tree.specs.Tree.{Head}
-use Rattle.effects.specs.Plan.{plan-spread, plan-template, plan-call, plan-impure-call, plan-new, plan-impure-new, plan-class, plan-conditional, plan-other, pure-call-given, pure-new-given}
+use Rattle.effects.specs.Plan.{plan-spread, plan-template, plan-call, plan-impure-call, plan-new, plan-impure-new, plan-class, plan-conditional, plan-other}
 use Rattle.effects.specs.Passed.{isPassed, inner-leaf, inner-other}
 use borrow.Author.Needs.{needs}
+use Rattle.rules.specs.Proofs.Given.{pure-call-given, pure-new-given}
+use Rattle.readings.specs.Node.{settingsWith}
 use Rattle.readings.specs.Own.{tells-flagged}
 use Rattle.effects.proofs.plan.plan_of.Statement.{statement}
 use Rattle.effects.proofs.plan.plan_of.Tie as tie
@@ -23,7 +25,7 @@ pure-call-requires : tie.Need-pure-call-requires
 pure-call-requires c κs = search needs
 
 returns : tie.Need-returns
-returns c = record { by = λ t n w. plan-call _ t _ (c .before .before .before .kind-at .ensures .0 ∙ ap (λ (h : Head). h .kind) (n .stands .0)) w (c .before .before .match .keys5) (pure-call-given _ _ t ∙ sym (c .before .pure-call .ensures .by t n) ∙ c .if1 .taken) }
+returns c = record { by = λ t n w. plan-call _ t _ (c .before .before .before .kind-at .ensures .0 ∙ ap (λ (h : Head). h .kind) (n .stands .0)) w (c .before .before .match .keys5) (pure-call-given _ (settingsWith _) t ∙ sym (c .before .pure-call .ensures .by t n) ∙ c .if1 .taken) }
 
 flagged-at-requires-2 : tie.Need-flagged-at-requires-2
 flagged-at-requires-2 c κs = search needs
@@ -32,7 +34,7 @@ pure-new-requires : tie.Need-pure-new-requires
 pure-new-requires c κs = search needs
 
 returns-2 : tie.Need-returns-2
-returns-2 c = record { by = λ t n w. plan-new _ t _ (c .before .before .before .kind-at .ensures .0 ∙ ap (λ (h : Head). h .kind) (n .stands .0)) w (c .before .before .match .keys6) (pure-new-given _ _ t ∙ sym (c .before .pure-new .ensures .by t n) ∙ c .if2 .taken) }
+returns-2 c = record { by = λ t n w. plan-new _ t _ (c .before .before .before .kind-at .ensures .0 ∙ ap (λ (h : Head). h .kind) (n .stands .0)) w (c .before .before .match .keys6) (pure-new-given _ (settingsWith _) t ∙ sym (c .before .pure-new .ensures .by t n) ∙ c .if2 .taken) }
 
 plan-logical-requires : tie.Need-plan-logical-requires
 plan-logical-requires c κs = search needs
@@ -56,10 +58,10 @@ returns-6 : tie.Need-returns-6
 returns-6 c = record { by = λ t n w. c .plan-binary .ensures .by _ t n w (sym (c .before .before .kind-at .ensures .0 ∙ ap (λ (h : Head). h .kind) (n .stands .0)) ∙ c .before .match .keys4) }
 
 returns-7 : tie.Need-returns-7
-returns-7 c = record { by = λ t n w. plan-impure-call _ t _ (c .before .before .before .before .kind-at .ensures .0 ∙ ap (λ (h : Head). h .kind) (n .stands .0)) (c .before .before .before .match .keys5) (pure-call-given _ _ t ∙ sym (c .before .before .pure-call .ensures .by t n) ∙ c .before .if1 .left) (tells-flagged (c .flagged-at2 .ensures) .by t n) }
+returns-7 c = record { by = λ t n w. plan-impure-call _ t _ (c .before .before .before .before .kind-at .ensures .0 ∙ ap (λ (h : Head). h .kind) (n .stands .0)) (c .before .before .before .match .keys5) (pure-call-given _ (settingsWith _) t ∙ sym (c .before .before .pure-call .ensures .by t n) ∙ c .before .if1 .left) (tells-flagged (c .flagged-at2 .ensures) .by t n) }
 
 returns-8 : tie.Need-returns-8
-returns-8 c = record { by = λ t n w. plan-impure-new _ t _ (c .before .before .before .before .kind-at .ensures .0 ∙ ap (λ (h : Head). h .kind) (n .stands .0)) (c .before .before .before .match .keys6) (pure-new-given _ _ t ∙ sym (c .before .before .pure-new .ensures .by t n) ∙ c .before .if2 .left) (tells-flagged (c .flagged-at3 .ensures) .by t n) }
+returns-8 c = record { by = λ t n w. plan-impure-new _ t _ (c .before .before .before .before .kind-at .ensures .0 ∙ ap (λ (h : Head). h .kind) (n .stands .0)) (c .before .before .before .match .keys6) (pure-new-given _ (settingsWith _) t ∙ sym (c .before .before .pure-new .ensures .by t n) ∙ c .before .if2 .left) (tells-flagged (c .flagged-at3 .ensures) .by t n) }
 
 returns-9 : tie.Need-returns-9
 returns-9 c = record { by = λ t n w. plan-class _ t _ (c .before .kind-at .ensures .0 ∙ ap (λ (h : Head). h .kind) (n .stands .0)) (c .match .keys7) }
