@@ -1,6 +1,6 @@
 //! Rows of document 02, N5, with their answers and effects: "f() flagged impure call".
 
-use port::kind;
+use port::{kind, sub};
 
 use crate::rows::{FLAGGED, Node, f, node, spread, x};
 
@@ -33,7 +33,7 @@ fn called(kind: u8, facts: u8, callee: u8, callee_facts: u8) -> Node {
 }
 
 fn void(place: u32, argument: Node) -> Node {
-    node(kind::UNARY, FLAGGED, port::sub::VOID, place, &[argument])
+    node(kind::UNARY, FLAGGED, sub::VOID, place, &[argument])
 }
 
 const F: u64 = 31 * 512 + 16 * 2;
