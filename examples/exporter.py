@@ -1,12 +1,12 @@
 #!/usr/bin/env python3
-"""Writes twenty-three JavaScript expressions as tree files.
+"""Writes twenty-four JavaScript expressions as tree files, the last in version 2.
 
-Usage: python3 exporter.py FOLDER    writes FOLDER/01.uxt to FOLDER/23.uxt
+Usage: python3 exporter.py FOLDER    writes FOLDER/01.uxt to FOLDER/24.uxt
 
 A real exporter walks the tree of a parser. Here the trees are built by hand,
 so that the script shows the format and nothing else: first the writer, then
-short forms for common nodes, then the table of the expressions. All but the
-last three of these were written from docs/FORMAT.md alone. It shares no code
+short forms for common nodes, then the tables of the expressions. All but the
+last four of these were written from docs/FORMAT.md alone. It shares no code
 with this repository.
 
 Of all of them it is known that names are parameters of the function around,
@@ -42,14 +42,16 @@ ANNOTATED = 32
 ANNOTATIONS, DERIVED = 1, 4
 
 HEADER = struct.Struct("<3sHBH")      # mark, version, settings, record count
-RECORD = struct.Struct("<BBBBHHII")   # kind, facts, sub, 0, children, size, text, place
+# By version: kind, facts, sub, 0, children, size, text, place, and in 2 the end.
+RECORD = {1: struct.Struct("<BBBBHHII"), 2: struct.Struct("<BBBBHHIII")}
 
 
 class Node:
     """A node of the tree. Its child count, size and text are found on writing.
 
-    The spelling is a name, the value of a string literal, or the pieces of a
-    template as a tuple. It is empty for all nodes without a text.
+    The place is where it starts; for version 2 that and where it ends, as a
+    tuple. The spelling is a name, the value of a string literal, or the pieces
+    of a template as a tuple. It is empty for all nodes without a text.
     """
 
     def __init__(self, kind, facts, sub, place, *children, spelling=""):
@@ -77,22 +79,23 @@ def allowed_facts(kind):
             else 255 if kind == CALL else 127 if kind == NEW else 31)
 
 
-def records_of(node, numbers):
+def records_of(node, numbers, version):
     """The records of a subtree: the node's own, then those of each child."""
     if node.facts & ~allowed_facts(node.kind):
         raise ValueError(f"kind {node.kind} may not have facts {node.facts}")
     text = text_of(node.spelling, numbers)
-    below = b"".join(records_of(child, numbers) for child in node.children)
-    size = 1 + len(below) // RECORD.size
-    return RECORD.pack(node.kind, node.facts, node.sub, 0,
-                       len(node.children), size, text, node.place) + below
+    below = b"".join(records_of(child, numbers, version) for child in node.children)
+    size = 1 + len(below) // RECORD[version].size
+    place = node.place if version == 2 else (node.place,)
+    return RECORD[version].pack(node.kind, node.facts, node.sub, 0,
+                                len(node.children), size, text, *place) + below
 
 
-def write_file(path, settings, root):
+def write_file(path, version, settings, root):
     """Writes a tree file: the header, then the records of the whole tree."""
-    records = records_of(root, {})
-    count = len(records) // RECORD.size
-    path.write_bytes(HEADER.pack(b"UXT", 1, settings, count) + records)
+    records = records_of(root, {}, version)
+    count = len(records) // RECORD[version].size
+    path.write_bytes(HEADER.pack(b"UXT", version, settings, count) + records)
 
 
 def places_in(source):
@@ -100,6 +103,12 @@ def places_in(source):
     def at(snippet):
         return len(source[:source.index(snippet)].encode())   # in UTF-8 bytes
     return at
+
+
+def spans_in(source):
+    """The same for version 2: where the snippet starts and where it ends."""
+    at = places_in(source)
+    return lambda snippet: (at(snippet), at(snippet) + len(snippet.encode()))
 
 
 # Short forms for common nodes.
@@ -322,11 +331,28 @@ EXPRESSIONS = [
              spelling=("", "", ""))),
 ]
 
+# The same for version 2, where the function is handed both ends.
+EXPRESSIONS_WITH_ENDS = [
+    # 24: the parentheses are part of the unary and not of the sequence, and a
+    # hole is empty.
+    ("[, void (a, f())]", 0, lambda span:
+        Node(ARRAY, EFFECT, 0, span("[, void (a, f())]"),
+             Node(ELISION, 0, 0, (1, 1)),
+             Node(UNARY, EFFECT | NO_STRING, VOID, span("void (a, f())"),
+                  Node(SEQUENCE, EFFECT, 0, span("a, f()"),
+                       name("a", span("a")),
+                       Node(CALL, EFFECT, 0, span("f()"), name("f", span("f"))))))),
+]
+
 
 def main(folder):
     folder.mkdir(parents=True, exist_ok=True)
-    for number, (source, settings, tree) in enumerate(EXPRESSIONS, 1):
-        write_file(folder / f"{number:02}.uxt", settings, tree(places_in(source)))
+    files = [(1, settings, tree(places_in(source)))
+             for source, settings, tree in EXPRESSIONS]
+    files += [(2, settings, tree(spans_in(source)))
+              for source, settings, tree in EXPRESSIONS_WITH_ENDS]
+    for number, file in enumerate(files, 1):
+        write_file(folder / f"{number:02}.uxt", *file)
 
 
 if __name__ == "__main__":

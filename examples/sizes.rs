@@ -29,7 +29,7 @@ fn size(tree: &[u8]) -> Result<String, u64> {
 }
 
 fn sizes(file: &[u8]) -> Result<String, u64> {
-    let mut left = vec![0; 63992]; // UXT_MOST_OUT
+    let mut left = vec![0; 79988]; // UXT_MOST_OUT
     let length = reduce(file, &mut left)?;
     let after = if length == 0 { "removable".to_string() } else { size(&left[..length])? };
     Ok(format!("before: {}\nafter: {after}", size(file)?))
@@ -37,7 +37,7 @@ fn sizes(file: &[u8]) -> Result<String, u64> {
 
 fn main() -> io::Result<()> {
     let mut file = Vec::new();
-    io::stdin().take(32009).read_to_end(&mut file)?; // UXT_MOST_SRC and one byte more
+    io::stdin().take(40009).read_to_end(&mut file)?; // UXT_MOST_SRC and one byte more
     match sizes(&file) {
         Ok(text) => println!("{text}"),
         Err(number) => println!("refused {number}"),

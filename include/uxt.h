@@ -24,8 +24,8 @@
 extern "C" {
 #endif
 
-/* Of the library. A tree file has a version of its own, which is 1. */
-#define UXT_VERSION "3.0.0"
+/* Of the library. A tree file has a version of its own, 1 or 2. */
+#define UXT_VERSION "3.1.0"
 
 /* Why a file, or what is lent, is refused; docs/FORMAT.md has each in full. 0 stands for no refusal. */
 #define UXT_REFUSED_MARK 1      /* under 8 bytes, or another mark */
@@ -40,6 +40,7 @@ extern "C" {
 #define UXT_REFUSED_ENTRIES 10  /* uxt_list_effects and uxt_list_effects_given: too few entries */
 #define UXT_REFUSED_SCOPE 11    /* uxt_derived: a scope byte over 7 */
 #define UXT_REFUSED_ANCESTOR 12 /* uxt_derived: an ancestor byte over 4 */
+#define UXT_REFUSED_SPAN 17     /* an end before its start, in a file of version 2 */
 
 /* What UXT_KIND gives of an entry, and byte 0 of a record. */
 #define UXT_KIND_STRING 1
@@ -69,10 +70,10 @@ extern "C" {
  * null, lasts as long as the program, and is not to be freed. Not proved. */
 const char *uxt_refusal_text(unsigned number);
 
-/* The number that uxt_reduce would refuse the tree file src with if out were long enough: 1 to 8, or 0 where it
- * would take the file. src holds the whole file (docs/FORMAT.md). A file longer than UXT_MOST_SRC is refused, so one
- * byte more is enough of any input to read. */
-#define UXT_MOST_SRC 32008
+/* The number that uxt_reduce would refuse the tree file src with if out were long enough: 1 to 8 or 17, or 0 where
+ * it would take the file. src holds the whole file (docs/FORMAT.md). A file longer than UXT_MOST_SRC is refused, so
+ * one byte more is enough of any input to read. */
+#define UXT_MOST_SRC 40008
 
 uint64_t uxt_check(const uint8_t *src, size_t src_len);
 
@@ -84,19 +85,19 @@ uint64_t uxt_check(const uint8_t *src, size_t src_len);
 
 /* Reduces the tree file src to the file that stands for its effects, and writes that to out.
  *
- * src holds the whole file (docs/FORMAT.md). out needs 8 + 16 * (2 * N - 1) bytes, where N is the record
- * count that bytes 6 and 7 of the file give, lower byte first; UXT_MOST_OUT are enough for every file. out
- * must not overlap src: a tree cannot be reduced where it stands.
+ * src holds the whole file (docs/FORMAT.md). out needs 8 + 16 * (2 * N - 1) bytes, with 20 for 16 in version 2,
+ * where N is the record count that bytes 6 and 7 of the file give, lower byte first; UXT_MOST_OUT are enough for
+ * every file. out must not overlap src: a tree cannot be reduced where it stands.
  *
  * Returns the number of the refusal, 0 where there is none, times 2^32, plus the length of the file written
  * in bytes. The length is 0 where there is a refusal, and where the tree is removable: nothing of it need
- * stay. The first bytes of out are the file, with the settings of src, and all others keep what they held;
- * where the length is 0 all do. Refused with 1 to 8 for a fault of the file, under Reduce's limits of 2,000
- * records and 64 levels; with 9 where out_len is under the need.
+ * stay. The first bytes of out are the file, with the version and the settings of src, and all others keep what
+ * they held; where the length is 0 all do. Refused with 1 to 8 or 17 for a fault of the file, under Reduce's
+ * limits of 2,000 records and 64 levels; with 9 where out_len is under the need.
  *
  * The file written has at most 2 * N - 1 records and at most one level more than src. uxt_list_effects takes
  * every such file; uxt_reduce only those within its own limits, and none with a logical. */
-#define UXT_MOST_OUT 63992
+#define UXT_MOST_OUT 79988
 
 uint64_t uxt_reduce(const uint8_t *src, size_t src_len, uint8_t *out, size_t out_len);
 
@@ -107,14 +108,14 @@ uint64_t uxt_reduce(const uint8_t *src, size_t src_len, uint8_t *out, size_t out
  *
  * Returns the number of the refusal, 0 where there is none, times 2^32, plus the count of the effects, 0
  * where there is a refusal. The first entries are the list, and all others keep what they held. Refused
- * with 1 to 8 for a fault of the file, under List effects' limits of 3,999 records and 65 levels; with 10
+ * with 1 to 8 or 17 for a fault of the file, under List effects' limits of 3,999 records and 65 levels; with 10
  * where entries_len is under twice the record count. Then all entries keep what they held. A file longer than
  * UXT_MOST_LISTED_SRC is refused; that is as long as one that uxt_reduce writes can be.
  *
  * Every test of a conditional or a logical counts as no: uxt_list_effects_given takes those that count as yes.
  *
- * An entry is place * 512 + kind * 2, plus 1 if it is a coercion. */
-#define UXT_MOST_LISTED_SRC 63992
+ * An entry is place * 512 + kind * 2, plus 1 if it is a coercion. The place is the start, in version 2 too. */
+#define UXT_MOST_LISTED_SRC 79988
 #define UXT_MOST_ENTRIES 7998
 #define UXT_PLACE(entry) ((uint32_t)((entry) >> 9))
 #define UXT_KIND(entry) ((uint8_t)((entry) >> 1))
@@ -125,7 +126,7 @@ uint64_t uxt_list_effects(const uint8_t *src, size_t src_len, uint64_t *entries,
 /* Lists the effects of the tree file src as uxt_list_effects does, but with tests that count as yes.
  *
  * The first child of a conditional or a logical is its test, which says what runs of the others (docs/FORMAT.md). It
- * counts as yes where its place is one of the yes_len places in yes, and else as no. yes may have any length and
+ * counts as yes where its start is one of the yes_len places in yes, and else as no. yes may have any length and
  * any order, and a place may come twice; with yes_len 0 the answer is that of uxt_list_effects.
  *
  * src, entries, what is returned and written, and the refusals are those of uxt_list_effects. Each conditional or

@@ -18,6 +18,7 @@ import uxt
 ROOT = pathlib.Path(__file__).resolve().parent.parent
 sys.path.insert(0, str(ROOT / "tools"))
 import listings as by_hand  # noqa: E402
+import worst  # noqa: E402
 
 THREADS = 8
 
@@ -92,7 +93,10 @@ def listings():
 def given():
     """Lists under yes places, which no program is lent: worked out by hand, beside the cases of the program `listings`."""
     for name, root, yes, effects in by_hand.given():
-        yield Case(f"given: {name}", uxt.list_effects, (by_hand.tree_file(root), yes), [effect(text) for text in effects.split()])
+        due = [effect(text) for text in effects.split()]
+        for version in (1, 2):
+            file = by_hand.tree_file(root, version=version)
+            yield Case(f"given: {name}, version {version}", uxt.list_effects, (file, yes), due)
 
 
 def reductions():
@@ -106,6 +110,19 @@ def reductions():
         else:
             due = refused(number) if word == "refused" else bytes.fromhex(lines)
             yield Case(name, uxt.reduce, (file,), due)
+
+
+def largest():
+    """Files of version 2 that no stored case has room for, worked out by hand."""
+    for name, root, answer in worst.by_hand():
+        file, left = worst.file_of(name, root, version=2), worst.tree_file(answer(root), version=2)
+        yield Case(f"largest: {name}", uxt.reduce, (file,), left)
+    for records in (by_hand.MOST_RECORDS, by_hand.MOST_RECORDS + 1):
+        file = by_hand.tree_file(by_hand.wide_template(records), version=2)
+        due = [uxt.Effect(place, 2, coercion) for place in range(1, records) for coercion in (False, True)]
+        taken = records == by_hand.MOST_RECORDS
+        yield Case(f"largest: {records} records", uxt.list_effects, (file,), due if taken else refused(4))
+        yield Case(f"largest: {records} records", uxt.reduce, (file,), refused(4))
 
 
 def derived_rows():
@@ -147,7 +164,7 @@ def examples():
         yield Case(name, uxt.check, (file,), due if isinstance(due, tuple) else None)
 
 
-GROUPS = (edges, listings, given, reductions, derived_rows, fixed_list, examples)
+GROUPS = (edges, listings, given, reductions, largest, derived_rows, fixed_list, examples)
 
 
 # ---- Running them

@@ -13,7 +13,7 @@ import os
 import pathlib
 import typing
 
-VERSION = "3.0.0"
+VERSION = "3.1.0"
 
 _BUILT = pathlib.Path(__file__).resolve().parent.parent / "target/library/libuxt.so.3"
 _MOST_REDUCED, _MOST_LISTED = 2000, 3999  # records that Reduce and List effects take
@@ -31,7 +31,7 @@ class Refused(Exception):
 
 
 class Effect(typing.NamedTuple):
-    """An effect: the place and the kind of its node, and whether it is a coercion."""
+    """An effect: the place of its node, which is the start, the node's kind, and whether it is a coercion."""
 
     place: int
     kind: int
@@ -45,10 +45,10 @@ def check(data):
 
 
 def reduce(data):
-    """The tree file that is left of one; b"" if the tree is removable."""
+    """The tree file that is left of one, of the same version; b"" if the tree is removable."""
     data = _bytes(data)
     records = min(_records(data), _MOST_REDUCED)
-    out = ctypes.create_string_buffer(8 + 16 * max(2 * records - 1, 0))
+    out = ctypes.create_string_buffer(8 + _width(data) * max(2 * records - 1, 0))
     length = _value(_reduce(data, len(data), out, len(out)))
     return out[:length]
 
@@ -86,6 +86,11 @@ def _places(yes):
 def _records(data):
     """The record count that the header gives. A file that has none is refused, whatever the room."""
     return int.from_bytes(data[6:8], "little")
+
+
+def _width(data):
+    """The bytes of a record, by the version. A file of another version is refused, whatever the room."""
+    return 20 if data[3:5] == b"\2\0" else 16
 
 
 def _value(answer):

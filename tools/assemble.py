@@ -6,7 +6,8 @@
 
 A text has a line for the file, then a line for each record, indented by two spaces for each level.
 The kind comes first; the other words of a line may stand in any order, each once. `text` and
-`place` are 0 where they are left out. A `#` starts a comment, and blank lines are allowed.
+`place` are 0 where they are left out. In version 2 a place has both ends, `place 4..7`; in any other
+it is a start alone. A `#` starts a comment, and blank lines are allowed.
 
 Only the text is checked, not the tree: a file that is refused can be written too, where there are
 words for it. A fault in the text is named on standard error, `line N: what is wrong`, and the exit
@@ -24,8 +25,10 @@ from reader import LIST_EFFECTS
 from words import FACTS, FLAGS, FORMS, KINDS, SETTINGS, set_in
 
 HEADER = struct.Struct("<3sHBH")  # mark, version, settings, records
-RECORD = struct.Struct("<BBBBHHII")  # kind, facts, sub, zero, children, size, text, place
+# kind, facts, sub, zero, children, size, text, place: its start, or in version 2 both ends
+RECORD, RECORD_2 = struct.Struct("<BBBBHHII"), struct.Struct("<BBBBHHIII")
 MOST_RECORDS = 65535  # what the record count can say
+MOST_NUMBER = 2 ** 32 - 1  # what a text or an end can be
 
 # ---- From a text to a file
 
@@ -35,14 +38,15 @@ class Fault(Exception):
 
 
 class Record:
-    def __init__(self, level, kind):
+    def __init__(self, level, kind, version):
         self.level, self.kind = level, kind
-        self.facts = self.sub = self.text = self.place = 0
+        self.facts = self.sub = self.text = 0
+        self.layout, self.place = (RECORD_2, (0, 0)) if version == 2 else (RECORD, (0,))
         self.parent, self.children, self.size = None, 0, 1
 
     def packed(self):
-        return RECORD.pack(KINDS.index(self.kind) + 1, self.facts, self.sub, 0, self.children, self.size, self.text,
-                           self.place)
+        return self.layout.pack(KINDS.index(self.kind) + 1, self.facts, self.sub, 0, self.children, self.size, self.text,
+                                *self.place)
 
 
 def assemble(text):
@@ -66,7 +70,7 @@ def read(text):
             elif len(records) == MOST_RECORDS:
                 raise Fault(f"a file has {MOST_RECORDS} records at most")
             else:
-                records.append(record_of(line, records[-1].level + 1 if records else 0))
+                records.append(record_of(line, records[-1].level + 1 if records else 0, header[0]))
         except Fault as fault:
             raise Fault(f"line {number}: {fault}") from None
     if header is None:
@@ -89,7 +93,7 @@ def header_of(line):
     return version, settings
 
 
-def record_of(line, most):
+def record_of(line, most, version):
     """The record that a line says, which stands at most so deep."""
     level = level_of(line)
     if level > most:
@@ -98,12 +102,12 @@ def record_of(line, most):
     kind = next(words)
     if kind not in KINDS:
         raise Fault(f"'{kind}' is no kind")
-    record = Record(level, kind)
+    record = Record(level, kind, version)
     for word in once(words):
         if word == "text":
-            record.text = number_behind(word, words, 2 ** 32 - 1)
+            record.text = number_behind(word, words, MOST_NUMBER)
         elif word == "place":
-            record.place = number_behind(word, words, 2 ** 32 - 1)
+            record.place = place_behind(word, words, version)
         elif word in FACTS:
             record.facts += FACTS[word]
         else:
@@ -143,9 +147,28 @@ def once(words):
 
 
 def number_behind(name, words, most):
+    return number_of(word_behind(name, words), most)
+
+
+def place_behind(name, words, version):
+    """The start, or in version 2 both ends."""
+    word = word_behind(name, words)
+    start, dots, end = word.partition("..")
+    if version == 2 and not dots:
+        raise Fault(f"'{word}' has no end: a place of version 2 is START..END")
+    if version != 2 and dots:
+        raise Fault(f"'{word}' has an end, which a place of version {version} has not")
+    return tuple(number_of(number, MOST_NUMBER) for number in ((start, end) if dots else (start,)))
+
+
+def word_behind(name, words):
     word = next(words, None)
     if word is None:
         raise Fault(f"the number behind '{name}' is missing")
+    return word
+
+
+def number_of(word, most):
     if not (word.isascii() and word.isdigit() and len(word) <= 10 and int(word) <= most):
         raise Fault(f"'{word}' is no number from 0 to {most}")
     return int(word)
@@ -171,14 +194,15 @@ def show(data):
     """The text of a file that List effects accepts."""
     _, version, settings, _ = HEADER.unpack_from(data)
     lines = [" ".join(["uxt", str(version)] + set_in(settings, SETTINGS))]
-    ends = []  # of the subtrees around the record
-    for i, (kind, facts, sub, _, _, size, text, place) in enumerate(RECORD.iter_unpack(data[HEADER.size:])):
-        while ends and ends[-1] <= i:
-            ends.pop()
+    layout = RECORD_2 if version == 2 else RECORD
+    last = []  # where the subtrees around the record end
+    for i, (kind, facts, sub, _, _, size, text, *place) in enumerate(layout.iter_unpack(data[HEADER.size:])):
+        while last and last[-1] <= i:
+            last.pop()
         kind = KINDS[kind - 1]
-        words = [kind] + sub_words(kind, sub) + set_in(facts, FACTS) + ["text", str(text), "place", str(place)]
-        lines.append("  " * len(ends) + " ".join(words))
-        ends.append(i + size)
+        words = [kind, *sub_words(kind, sub), *set_in(facts, FACTS), "text", str(text), "place", "..".join(map(str, place))]
+        lines.append("  " * len(last) + " ".join(words))
+        last.append(i + size)
     return "".join(line + "\n" for line in lines)
 
 

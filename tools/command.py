@@ -26,7 +26,7 @@ STATUSES = """status: 0  answered
         1  refused: `refused` and the number are printed; docs/FORMAT.md has the numbers
         2  not answered: the words are wrong, or a read, a write or a build failed; standard error says which
 """
-MOST_READ = 2 ** 20  # bytes that `explain` reads: more than any record count can speak of
+MOST_READ = 2 ** 21  # bytes that `explain` reads: more than any record count can speak of
 FOR_TESTS = "For the tests: "
 
 

@@ -4,7 +4,7 @@
 The program `edges` (crates/edges) reads the cases and must print the expected lines.
 
   edges.py cases               the cases, binary: for each its length in bytes (two bytes, little-endian)
-                               and its bytes. The longest has 64,008
+                               and its bytes, at most 65,535: so a file of version 2 has at most 3,276 records
   edges.py expected            a line for each case: the answer under Reduce's limits, a space, the
                                answer under List effects' limits. An answer is the number of the
                                refusal, or SETTINGS/RECORDS where the file is accepted
@@ -21,8 +21,9 @@ import pathlib
 import sys
 
 from reader import (ADDITION, ARRAY, ARROW, ASSIGNMENT, BINARY, CALL, CHILDREN, CLASS, COMPARISON, CONDITIONAL, COUNT, ELEMENT,
-                    ELISION, FACTS, FUNCTION, IDENTIFIER, KIND, LIST_EFFECTS, LITERAL, LOGICAL, NEW, OBJECT, OTHER_LEAF, PROPERTY,
-                    REDUCE, SEQUENCE, SETTINGS, SIZE, SPREAD, SUB, TEMPLATE, THIS, UNARY, VERSION, ZERO, answer, of, u16)
+                    ELISION, FACTS, FIELDS, FUNCTION, IDENTIFIER, KIND, LIST_EFFECTS, LITERAL, LOGICAL, NEW, OBJECT, OTHER_LEAF,
+                    PROPERTY, REDUCE, SEQUENCE, SETTINGS, SIZE, SPREAD, START, SUB, TEMPLATE, THIS, UNARY, VERSION, ZERO, answer,
+                    of, u16)
 
 NULLISH, AND, OR = 0, 1, 2  # subs of a logical
 SYMBOL, STRING = 4, 18  # facts: symbol yes; string yes, which needs symbol no
@@ -31,27 +32,42 @@ SYMBOL, STRING = 4, 18  # facts: symbol yes; string yes, which needs symbol no
 
 
 class Node:
+    """Its place is a start, which is the end too, or a pair of both ends; version 1 records the start alone."""
+
     def __init__(self, kind, *children, facts=None, sub=0, text=0, place=0, zero=0):
         self.kind, self.children = kind, children
         self.facts = facts if facts is not None else 18 if kind == LITERAL else 0
         self.sub, self.text, self.place, self.zero = sub, text, place, zero
 
 
-def put(node, out):
+def both_ends(place):
+    return place if isinstance(place, tuple) else (place, place)
+
+
+def put(node, out, version):
     """Appends the records of a tree to a list of records, parent before children."""
     at = len(out)
     out.append(b"")
     for child in node.children:
-        put(child, out)
+        put(child, out, version)
+    numbers = (node.text, *both_ends(node.place)[:version])
     out[at] = (bytes([node.kind, node.facts, node.sub, node.zero])
                + len(node.children).to_bytes(2, "little") + (len(out) - at).to_bytes(2, "little")
-               + node.text.to_bytes(4, "little") + node.place.to_bytes(4, "little"))
+               + b"".join(number.to_bytes(4, "little") for number in numbers))
 
 
-def tree_file(root, settings=0):
+def tree_file(root, settings=0, version=1):
     records = []
-    put(root, records)
-    return b"UXT" + bytes([1, 0, settings]) + len(records).to_bytes(2, "little") + b"".join(records)
+    put(root, records, version)
+    return b"UXT" + bytes([version, 0, settings]) + len(records).to_bytes(2, "little") + b"".join(records)
+
+
+def widened(data):
+    """A file of version 1 as version 2; another version stays. The end of a record goes by its start, and differs from all starts
+    below 0xff000000, so that one that is read for the other, or comes from another record, shows."""
+    parts = [data[at:at + 16] for at in range(8, len(data), 16)]
+    head = with_u16(data[:8], VERSION, 2) if u16(data, VERSION) == 1 else data[:8]
+    return head + b"".join(part + part[START:-1] + b"\xff" if len(part) == 16 else part for part in parts)
 
 
 def with_byte(data, at, value):
@@ -64,6 +80,12 @@ def with_u16(data, at, value):
 
 def plus(data, at, change):
     return with_u16(data, at, u16(data, at) + change)
+
+
+def with_ends(data, record, start, end):
+    """A file of version 2 with both ends of a record set."""
+    at = of(record, START, 2)
+    return data[:at] + start.to_bytes(4, "little") + end.to_bytes(4, "little") + data[at + 8:]
 
 
 def identifier():
@@ -140,16 +162,16 @@ class Cases:
             sys.exit(f"edges.py: {name}: the reader answers {read}, and by hand it is {hand}")
 
 
-GOOD = tree_file(identifier())
+GOODS = {version: tree_file(identifier(), version=version) for version in (1, 2)}
+GOOD = GOODS[1]
 
 
 def lengths(c):
-    for length in range(8):
-        c.edge(f"the first {length} bytes of a good file", GOOD[:length], 1)
-    for length in range(8, 24):
-        c.edge(f"the first {length} bytes of a good file", GOOD[:length], 4)
-    c.edge("a good file of one record", GOOD, "0/1")
-    c.edge("a good file and one byte more", GOOD + b"\0", 4)
+    for version, good in GOODS.items():
+        for length in range(len(good)):
+            c.edge(f"version {version}: the first {length} bytes of a good file", good[:length], 1 if length < 8 else 4)
+        c.edge(f"version {version}: a good file of one record", good, "0/1")
+        c.edge(f"version {version}: a good file and one byte more", good + b"\0", 4)
     for length in range(10):
         c.edge(f"{length} zero bytes", bytes(length), 1)
 
@@ -159,12 +181,14 @@ def header(c):
         c.edge(f"mark byte {at} is {wrong.decode()}", with_byte(GOOD, at, wrong[0]), 1)
     c.edge("mark in small letters", b"uxt" + GOOD[3:], 1)
     c.edge("mark wrong in a file of 8 bytes", b"UXU" + GOOD[3:8], 1)
-    for version in (0, 2, 255, 256, 257, 65535):
-        c.edge(f"version {version}", with_u16(GOOD, VERSION, version), 2)
-    for settings in range(8):
-        c.edge(f"settings {settings}", with_byte(GOOD, SETTINGS, settings), f"{settings}/1")
-    for settings in (8, 9, 15, 16, 32, 64, 128, 135, 255):
-        c.edge(f"settings {settings}", with_byte(GOOD, SETTINGS, settings), 3)
+    for version, good in GOODS.items():
+        for wrong in (0, 3, 255, 256, 257, 258, 512, 513, 514, 65535):
+            c.edge(f"version {wrong} in a file of version {version}", with_u16(good, VERSION, wrong), 2)
+        c.edge(f"version {3 - version} in a file of version {version}", with_u16(good, VERSION, 3 - version), 4)
+        for settings in range(8):
+            c.edge(f"version {version}: settings {settings}", with_byte(good, SETTINGS, settings), f"{settings}/1")
+        for settings in (8, 9, 15, 16, 32, 64, 128, 135, 255):
+            c.edge(f"version {version}: settings {settings}", with_byte(good, SETTINGS, settings), 3)
 
 
 def counts(c):
@@ -183,8 +207,8 @@ def counts(c):
     c.edge("two records, one byte long", pair + b"\0", 4)
 
 
-def flat(count):
-    return tree_file(Node(ARRAY, *[Node(ELISION) for _ in range(count - 1)]))
+def flat(count, version=1):
+    return tree_file(Node(ARRAY, *[Node(ELISION) for _ in range(count - 1)]), version=version)
 
 
 def record_limits(c):
@@ -195,6 +219,10 @@ def record_limits(c):
     c.edge("2,001 records, the last one's byte 3 is 1", with_byte(flat(2001), of(2000, ZERO), 1), 4, 5)
     c.edge("2,000 records, each under the one before", tree_file(chain(2000)), 8)
     c.edge("3,999 records, each under the one before", tree_file(chain(3999)), 4, 8)
+    for count in (1500, 1501, 2000):
+        c.edge(f"version 2: {count} records", flat(count, 2), f"0/{count}")
+    for count in (2001, 3276):
+        c.edge(f"version 2: {count} records", flat(count, 2), 4, f"0/{count}")
 
 
 def kinds(c):
@@ -363,11 +391,15 @@ def child_counts(c):
                    tree_file(Node(CLASS, Node(ELEMENT, *[one] * count, sub=sub))), 7)
 
 
+def nine_records():
+    """0 array, 1 call, 2 callee, 3 argument, 4 object, 5 property, 6 key, 7 value, 8 elision"""
+    return Node(ARRAY, Node(CALL, identifier(), identifier()),
+                Node(OBJECT, Node(PROPERTY, identifier(), identifier(), sub=1)), Node(ELISION))
+
+
 def shapes(c):
     """Child counts and sizes that do not fit the records."""
-    # 0 array, 1 call, 2 callee, 3 argument, 4 object, 5 property, 6 key, 7 value, 8 elision
-    nine = tree_file(Node(ARRAY, Node(CALL, identifier(), identifier()),
-                          Node(OBJECT, Node(PROPERTY, identifier(), identifier(), sub=1)), Node(ELISION)))
+    nine = tree_file(nine_records())
     c.edge("nine records", nine, "0/9")
     for at, where in ((0, "first"), (4, "middle"), (8, "last")):
         for field, name in ((CHILDREN, "child count"), (SIZE, "subtree size")):
@@ -604,7 +636,7 @@ def symbol_order(c):
     data = tree_file(wrong)
     for record in range(3):
         c.edge(f"such an addition, the size of record {record} one more", plus(data, of(record, SIZE), 1), 7)
-    for name, broken, number in (("mark", with_byte(data, 0, 0), 1), ("version", with_u16(data, VERSION, 2), 2),
+    for name, broken, number in (("mark", with_byte(data, 0, 0), 1), ("version", with_u16(data, VERSION, 3), 2),
                                  ("settings", with_byte(data, SETTINGS, 8), 3), ("a byte more", data + b"\0", 4)):
         c.edge(f"such an addition, and {name}", broken, number)
     c.edge("such an addition, settings 7", tree_file(wrong, settings=7), 5)
@@ -696,7 +728,7 @@ def faulty(faults):
     if 3 in faults:
         data = with_byte(data, SETTINGS, 8)
     if 2 in faults:
-        data = with_u16(data, VERSION, 2)
+        data = with_u16(data, VERSION, 3)
     if 1 in faults:
         data = with_byte(data, 0, 0)
     return data
@@ -709,9 +741,9 @@ def several_faults(c):
     for number in range(1, 8):
         c.edge(f"faults [{number}, 8]", faulty([number, 8]), number)
     c.edge("faults [8]", faulty([8]), 8)
-    c.edge("version wrong and no record", with_u16(GOOD[:8], VERSION, 2), 2)
+    c.edge("version wrong and no record", with_u16(GOOD[:8], VERSION, 3), 2)
     c.edge("settings wrong and no record", with_byte(GOOD[:8], SETTINGS, 8), 3)
-    c.edge("version wrong, cut after 7 bytes", with_u16(GOOD, VERSION, 2)[:7], 1)
+    c.edge("version wrong, cut after 7 bytes", with_u16(GOOD, VERSION, 3)[:7], 1)
     five = tree_file(Node(ARRAY, *[identifier() for _ in range(4)]))
     for i in (0, 2, 4):
         for j in (0, 2, 4):
@@ -734,12 +766,77 @@ def several_faults(c):
     c.edge("depth 65, settings 7", tree_file(chain(65), settings=7), 8, "7/65")
 
 
+# ---- Version 2: document 02, N6
+
+
+def widened_cases(c):
+    """What has a fault in several places, or in a record that is not the first: the answers are those of version 1."""
+    first = Cases()
+    for group in (counts, accepted, zero_byte, child_counts, shapes, conditionals, string_parts, symbol_order, depths,
+                  several_faults):
+        group(first)
+    for name, data, *answers in first.cases:
+        c.edge(f"version 2: {name}", widened(data), *answers)
+
+
+ENDS_BEFORE = ((1, 0), (2, 1), (0x100, 0xff), (0x10000, 0xffff), (0x1000000, 0xffffff), (0x80000000, 0x7fffffff),
+               (0x01000001, 0x01000000), (0x02000001, 0x01000002), (2 ** 32 - 1, 2 ** 32 - 2), (2 ** 32 - 1, 0))
+ENDS_TAKEN = ((0, 0), (0, 1), (1, 1), (0xff, 0x100), (0xffff, 0x10000), (0xffffff, 0x1000000), (0x7fffffff, 0x80000000),
+              (0x01000002, 0x02000001), (0, 2 ** 32 - 1), (2 ** 32 - 1, 2 ** 32 - 1))
+
+
+def ends(c):
+    """An end before its start in each record, of each kind, and by each byte; any other end is taken."""
+    for pairs, due in ((ENDS_BEFORE, 17), (ENDS_TAKEN, "0/1")):
+        for place in pairs:
+            c.edge("from {} to {}".format(*place), tree_file(Node(IDENTIFIER, place=place), version=2), due)
+    nine = tree_file(nine_records(), version=2)
+    for record in range(9):
+        c.edge(f"record {record} of nine ends one before its start", with_ends(nine, record, 5, 4), 17)
+        c.edge(f"record {record} of nine ends at its start", with_ends(nine, record, 5, 5), "0/9")
+    for kind in range(1, 23):
+        root = around(sample(kind))
+        at = 0 if root.kind == kind else 1
+        c.edge(f"kind {kind} ends before its start", with_ends(tree_file(root, version=2), at, 1, 0), *by_hand(root, 17))
+    c.edge("each of two records ends before its start", with_ends(with_ends(flat(2, 2), 0, 9, 8), 1, 3, 2), 17)
+    c.edge("a child outside its parent's ends", with_ends(with_ends(flat(2, 2), 0, 10, 20), 1, 30, 40), "0/2")
+    c.edge("the last of 2,001 records ends before its start", with_ends(flat(2001, 2), 2000, 1, 0), 4, 17)
+
+
+def end_order(c):
+    """17 comes behind 7 and the test of additions, and before 8."""
+    for bits in range(128):
+        faults = [number for number in range(1, 8) if bits >> number - 1 & 1]
+        c.edge(f"faults {faults + [17]}", with_ends(widened(faulty(faults)), 1, 1, 0), min(faults, default=17))
+    for faults in ([], *([number] for number in range(1, 8))):
+        c.edge(f"faults {faults + [17, 8]}", with_ends(widened(faulty(faults + [8])), 1, 1, 0), min(faults, default=17))
+    five = tree_file(Node(ARRAY, *[identifier() for _ in range(4)]), version=2)
+    for i in (0, 2, 4):
+        for j in (0, 2, 4):
+            ended = with_ends(five, j, 1, 0)
+            c.edge(f"5 at record {i}, 17 at record {j}", with_byte(ended, of(i, ZERO, 2), 1), 5)
+            c.edge(f"6 at record {i}, 17 at record {j}", with_byte(ended, of(i, KIND, 2), LOGICAL), 6)
+            c.edge(f"7 at record {i}, 17 at record {j}", plus(ended, of(i, SIZE, 2), 1), 7)
+    for record in range(3):
+        for depth in (1, 70):
+            data = tree_file(chain(depth, inner=symbol_and_string), version=2)
+            c.edge(f"an addition that is a symbol with a string part at depth {depth}, 17 at its record {record}",
+                   with_ends(data, depth - 1 + record, 1, 0), 5)
+    for depth in (64, 65, 66):
+        for record in (0, depth - 1):
+            c.edge(f"depth {depth}, 17 at record {record}", with_ends(tree_file(chain(depth), version=2), record, 1, 0), 17)
+    c.edge("an elision under void, 17 at the elision", with_ends(tree_file(void(Node(ELISION)), version=2), 1, 1, 0), 7)
+
+
 def changed_bytes(c):
-    """Three files with each byte of the header, and each before the text, one more and one less."""
-    for name in ("columns", "class", "logical"):
+    """Four files with each byte of the header, each before the text, and in version 2 each of both ends, one more and one less."""
+    for name in ("columns", "class", "logical", "spans"):
         data = EXAMPLES[name]
+        version = u16(data, VERSION)
         for at, byte in enumerate(data):
-            for change in (1, -1) if at % 16 >= 8 or at < 8 else ():
+            field = (at - 8) % FIELDS[version].size
+            tried = at < 8 or field < 8 or version == 2 and field >= START
+            for change in (1, -1) if tried else ():
                 c.add(f"{name}.uxt, byte {at} {change:+d}", with_byte(data, at, (byte + change) % 256))
 
 
@@ -747,7 +844,7 @@ def all_cases():
     c = Cases()
     for group in (lengths, header, counts, record_limits, kinds, accepted, facts, subs, zero_byte,
                   child_counts, shapes, standing, conditionals, symbols, string_parts, symbol_order, symbol_depths, depths,
-                  conditional_depths, several_faults, changed_bytes):
+                  conditional_depths, several_faults, widened_cases, ends, end_order, changed_bytes):
         group(c)
     return c.cases
 
@@ -758,10 +855,10 @@ def all_cases():
 def columns():
     """[1, a(), ...b]; the array, the call and the spread are flagged."""
     return Node(ARRAY,
-                Node(OTHER_LEAF, facts=10, text=1, place=1),
-                Node(CALL, Node(IDENTIFIER, text=2, place=4), facts=1, place=4),
-                Node(SPREAD, Node(IDENTIFIER, text=3, place=12), facts=1, place=9),
-                facts=1, place=0)
+                Node(OTHER_LEAF, facts=10, text=1, place=(1, 2)),
+                Node(CALL, Node(IDENTIFIER, text=2, place=(4, 5)), facts=1, place=(4, 7)),
+                Node(SPREAD, Node(IDENTIFIER, text=3, place=(12, 13)), facts=1, place=(9, 13)),
+                facts=1, place=(0, 14))
 
 
 def class_with_elements():
@@ -786,6 +883,7 @@ EXAMPLES = {
     "class": tree_file(class_with_elements(), settings=1),
     "columns": tree_file(columns()),
     "logical": tree_file(logical_and()),
+    "spans": tree_file(columns(), version=2),
 }
 
 

@@ -9,7 +9,7 @@ docs/FORMAT.md that is broken. It comes from reader.py, which is not proved.
 
 import sys
 
-from reader import LIST_EFFECTS, REDUCE, SETTINGS, depth, fault, of, records_of
+from reader import COLUMNS_RECORDS, COUNT, LIST_EFFECTS, REDUCE, SETTINGS, VERSION, depth, fault, records_of, u16
 from sentences import MEANS
 from words import KINDS, SETTINGS as SETTING_WORDS, set_in
 
@@ -24,12 +24,15 @@ def explanation(data, limits=REDUCE):
     if number in (4, 6, 8) and fault(data, LIST_EFFECTS) is None:
         takes = "List effects takes it: at most {} records, depth {}, and logical nodes of sub 1 and 2."
         lines.append(takes.format(*LIST_EFFECTS))
+    if number not in (1, 2, 3, 4) and u16(data, VERSION) == 2 and u16(data, COUNT) > COLUMNS_RECORDS:
+        lines.append(f"The program columns refuses it with 4: it takes at most {COLUMNS_RECORDS} records of version 2.")
     return number, "".join(line + "\n" for line in lines + [READ_BY])
 
 
 def accepted(data):
+    version, count = u16(data, VERSION), u16(data, COUNT)
     settings = " ".join(set_in(data[SETTINGS], SETTING_WORDS)) or "none"
-    return [f"accepted: records {len(records_of(data))}, depth {depth(data)}, settings {settings}"]
+    return [f"accepted: version {version}, records {count}, depth {depth(data)}, settings {settings}"]
 
 
 def refused(data, found):
@@ -43,9 +46,9 @@ def refused(data, found):
 
 
 def record_line(data, i):
-    kind = data[of(i, 0)]
-    word = KINDS[kind - 1] if 1 <= kind <= len(KINDS) else "no kind"
-    return f"record {i}: {word}, at byte {of(i, 0)}"
+    record = records_of(data)[i]
+    word = KINDS[record.kind - 1] if 1 <= record.kind <= len(KINDS) else "no kind"
+    return f"record {i}: {word}, at byte {record.at}"
 
 
 def main(words):

@@ -19,7 +19,8 @@ import explanations
 import programs
 from edges import STRING, SYMBOL
 from explain import explanation
-from reader import ADDITION, BINARY, FIELDS, IDENTIFIER, LIST_EFFECTS, LITERAL, REDUCE, UNARY, Limits, answer, fault
+from reader import (ADDITION, BINARY, FIELDS, IDENTIFIER, LIST_EFFECTS, LITERAL, REDUCE, UNARY, VERSION, Limits, answer, fault,
+                    u16)
 from sentences import MEANS, ROWS, RULES
 
 ROOT = pathlib.Path(__file__).resolve().parent.parent
@@ -28,8 +29,8 @@ import uxt  # noqa: E402
 
 LEAST_DAMAGED = 100_000
 NO_RECORD = 65535
-RECORDS = (5, 6, 7)  # the numbers for which a record is damaged
-NUMBER = re.compile(r"refused ([1-8])\n|accepted: ")
+RECORDS = (5, 6, 7, 17)  # the numbers for which a record is damaged
+NUMBER = re.compile(r"refused ([1-8]|17)\n|accepted: ")
 NAMED = re.compile(r"^(?:in )?record (\d+): ", re.M)
 
 
@@ -103,9 +104,10 @@ def check_stored():
 
 def changed(data):
     """Each byte of the file behind the header, with each value: the file, and the record that was changed."""
+    width = FIELDS[u16(data, VERSION)].size
     for at in range(8, len(data)):
         for value in range(256):
-            yield data[:at] + bytes([value]) + data[at + 1:], (at - 8) // 16
+            yield data[:at] + bytes([value]) + data[at + 1:], (at - 8) // width
 
 
 def check_changed(data):
@@ -120,9 +122,13 @@ COUNTED = 65535
 HEADER = b"UXT\1\0\0" + COUNTED.to_bytes(2, "little")
 
 
+def packed(kind, facts, sub, children, size):
+    return FIELDS[1].pack(kind, facts, sub, 0, children, size, 0)
+
+
 def check_deep():
-    unaries = b"".join(FIELDS.pack(UNARY, 0, 1, 0, 1, size) for size in range(COUNTED, 1, -1))
-    data = HEADER + unaries + FIELDS.pack(IDENTIFIER, 0, 0, 0, 0, 1)
+    unaries = b"".join(packed(UNARY, 0, 1, 1, size) for size in range(COUNTED, 1, -1))
+    data = HEADER + unaries + packed(IDENTIFIER, 0, 0, 0, 1)
     require(answer(data, Limits(COUNTED, COUNTED, False)) == f"0/{COUNTED}", f"depth {COUNTED} is refused")
     require(fault(data, Limits(COUNTED, COUNTED - 1, False)).record == COUNTED - 1, "the last record is not named for its depth")
 
@@ -130,8 +136,8 @@ def check_deep():
 def check_deep_additions():
     """The outmost is recorded as a symbol, and the left side of the inmost is a string."""
     sizes = range(COUNTED, 1, -2)
-    additions = b"".join(FIELDS.pack(BINARY, SYMBOL if size == COUNTED else 0, ADDITION, 0, 2, size) for size in sizes)
-    leaves = FIELDS.pack(LITERAL, STRING, 0, 0, 0, 1) + FIELDS.pack(IDENTIFIER, 0, 0, 0, 0, 1) * len(sizes)
+    additions = b"".join(packed(BINARY, SYMBOL if size == COUNTED else 0, ADDITION, 2, size) for size in sizes)
+    leaves = packed(LITERAL, STRING, 0, 0, 1) + packed(IDENTIFIER, 0, 0, 0, 1) * len(sizes)
     found = fault(HEADER + additions + leaves, Limits(COUNTED, REDUCE.depth, False))
     require((found.number, found.record) == (5, 0), f"the symbol among {len(sizes)} additions is not named")
 
@@ -159,7 +165,7 @@ def frames(data):
 
 
 def check_damaged(data):
-    numbers, single, damaged, first = [0] * 9, 0, collections.Counter(), collections.Counter()
+    numbers, single, damaged, first = dict.fromkeys([0, *MEANS], 0), 0, collections.Counter(), collections.Counter()
     for i, (file, due, faults, record) in enumerate(frames(data)):
         number, records = explained(file)
         require(number == due, f"file {i} gets {number}, and {due} is due")
@@ -171,9 +177,10 @@ def check_damaged(data):
             require(record in records, f"file {i}: record {record} was damaged, and {records} are named")
             damaged[faults] += 1
             first[faults] += records[0] == record
-    require(sum(numbers) >= LEAST_DAMAGED, f"{sum(numbers)} files are too few")
-    require(all(numbers), f"a number is missing: {numbers}")
-    print(f"{sum(numbers)} files: {numbers[0]} accepted, refused by number 1 to 8 {numbers[1:]}")
+    files, accepted = sum(numbers.values()), numbers.pop(0)
+    require(files >= LEAST_DAMAGED, f"{files} files are too few")
+    require(accepted and all(numbers.values()), f"a number is missing: {accepted} accepted, {numbers}")
+    print(f"{files} files: {accepted} accepted, refused by number {numbers}")
     print(f"{single} have a single fault, {damaged[1]} of them in a record: it is named in all, first in {first[1]}")
     print(f"{damaged[2]} have two faults and are refused for one in a record: it is named in all, first in {first[2]}")
 
@@ -189,7 +196,7 @@ def main(words):
         check_programs()
         check_deep()
         check_deep_additions()
-        for name in ("columns", "class", "conditional", "addition"):
+        for name in ("columns", "class", "conditional", "addition", "spans"):
             check_changed((ROOT / f"examples/{name}.uxt").read_bytes())
     elif words == ["damaged"]:
         check_damaged(sys.stdin.buffer.read())

@@ -6,23 +6,30 @@ import sys
 from edges import (ARRAY, ASSIGNMENT, CALL, CHILDREN, CLASS, CONDITIONAL, COUNT, ELEMENT, ELISION, EXAMPLES, FACTS, IDENTIFIER,
                    KIND, LITERAL, NULLISH, SEQUENCE, SETTINGS, SIZE, SPREAD, SUB, SYMBOL, TEMPLATE, UNARY, VERSION, ZERO, Node,
                    chain, conditional, flat, identifier, logical, of, plus, sum_of, symbol_and_string, tree_file, with_byte,
-                   with_string, with_u16)
+                   with_ends, with_string, with_u16)
 from explain import explanation
 
-COLUMNS, ELEMENTS = EXAMPLES["columns"], EXAMPLES["class"]
+COLUMNS, ELEMENTS, SPANS = EXAMPLES["columns"], EXAMPLES["class"], EXAMPLES["spans"]
 FOUR_FAULTS = COLUMNS[:of(3, FACTS)] + b"\xff\xff\xff" + with_byte(COLUMNS, of(4, ZERO), 1)[of(3, CHILDREN):]
 NO_TREE = plus(COLUMNS, of(0, CHILDREN), 1)  # by its child counts
 
 FILES = (
     ("a file that is accepted", COLUMNS),
+    ("a file of version 2", SPANS),
     ("an identifier, all settings on", tree_file(identifier(), settings=7)),
+    ("version 2, 1,500 records", flat(1500, 2)),
+    ("version 2, 1,501 records", flat(1501, 2)),
     ("1: five bytes", COLUMNS[:5]),
     ("1: the mark is UXS", with_byte(COLUMNS, 2, ord("S"))),
     ("2: version 256", with_u16(COLUMNS, VERSION, 256)),
+    ("2: version 3", with_u16(SPANS, VERSION, 3)),
     ("3: settings 41", with_byte(COLUMNS, SETTINGS, 41)),
     ("4: count 0", with_u16(COLUMNS, COUNT, 0)),
     ("4: 2,001 records", flat(2001)),
     ("4: a byte too many", COLUMNS + b"\0"),
+    ("4: version 2, 2,001 records", flat(2001, 2)),
+    ("4: version 2, a byte too few", SPANS[:-1]),
+    ("4: version 1, called version 2", with_u16(COLUMNS, VERSION, 2)),
     ("5: kind 23", with_byte(COLUMNS, of(5, KIND), 23)),
     ("5: a spread with a symbol fact", with_byte(COLUMNS, of(4, FACTS), 3)),
     ("5: symbol no and yes", with_byte(COLUMNS, of(1, FACTS), 14)),
@@ -39,6 +46,8 @@ FILES = (
     ("5: a static block with bit 3", with_byte(ELEMENTS, of(7, SUB), 12)),
     ("5: a method with a value", with_byte(ELEMENTS, of(2, SUB), 81)),
     ("5: byte 3", with_byte(COLUMNS, of(3, ZERO), 255)),
+    ("5: version 2, byte 3", with_byte(SPANS, of(3, ZERO, 2), 255)),
+    ("5: version 2, byte 3 of the last of 1,501 records", with_byte(flat(1501, 2), of(1500, ZERO, 2), 1)),
     ("5: byte 3 of two records, and in the first one facts and sub", FOUR_FAULTS),
     ("6: a && b", EXAMPLES["logical"]),
     ("6: a ?? b", tree_file(logical(sub=NULLISH))),
@@ -63,8 +72,13 @@ FILES = (
     ("7: a spread as root", tree_file(Node(SPREAD, identifier()))),
     ("7: an elision in a call", tree_file(Node(ARRAY, Node(CALL, identifier(), Node(ELISION))))),
     ("7: an array made a template", with_byte(COLUMNS, of(0, KIND), TEMPLATE)),
+    ("7: version 2, a size, one more", plus(SPANS, of(4, SIZE, 2), 1)),
+    ("17: the end of a call, one before its start", with_ends(SPANS, 2, 4, 3)),
+    ("17: two ends, 0", with_ends(with_ends(SPANS, 5, 12, 0), 4, 9, 0)),
+    ("17: a file that is too deep", with_ends(tree_file(chain(66), version=2), 65, 2 ** 32 - 1, 0)),
     ("8: depth 65", tree_file(chain(65))),
     ("8: depth 66", tree_file(chain(66))),
+    ("8: version 2, depth 65", tree_file(chain(65), version=2)),
 )
 
 

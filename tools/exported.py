@@ -14,7 +14,7 @@ from assemble import assemble
 
 ROOT = pathlib.Path(__file__).resolve().parent.parent
 TITLE = re.compile(r"^# (\d\d) .*\n", re.MULTILINE)
-FILES = 23
+FILES = 24
 
 
 def texts():

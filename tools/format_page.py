@@ -5,7 +5,7 @@ Its tables of records give the lists and the answers that stand behind them. The
 coercions of their lists, and what they say is left; a row has no places of its own, and its nodes are all at 0. Each shape of the
 tables from JavaScript to records is taken, or refused by 6 where an operation does not take it. The line of the allowed facts
 gives the values beside it and those of the table of kinds, and by it each kind from 0 to 255 with each facts byte is taken or
-refused. Each link leads to a heading.
+refused. The bytes of the examples are those of their files. Each link leads to a heading.
 """
 
 import pathlib
@@ -68,14 +68,14 @@ def effects(text):
 
 
 def tables():
-    """The file of each table of records, and the line behind it."""
-    for table in re.finditer(r"(?:^\| record \|.*\n)(?:^\|.*\n)+\n?(.*)", PAGE, re.MULTILINE):
-        records = [list(map(int, cells[:8])) for cells in rows(table[0])]
-        data = b"UXT\1\0\0" + len(records).to_bytes(2, "little")
-        for _, kind, facts, sub, children, size, text, place in records:
+    """The file of each table of records, and the line behind it. A table with ends is of version 2."""
+    for table in re.finditer(r"^\| record \|(.*)\n(?:^\|.*\n)+\n?(.*)", PAGE, re.MULTILINE):
+        records = [list(map(int, cells[1:-1])) for cells in rows(table[0])]
+        data = b"UXT" + bytes([2 if "| end |" in table[1] else 1, 0, 0]) + len(records).to_bytes(2, "little")
+        for kind, facts, sub, children, size, *numbers in records:
             data += bytes([kind, facts, sub, 0]) + children.to_bytes(2, "little") + size.to_bytes(2, "little")
-            data += text.to_bytes(4, "little") + place.to_bytes(4, "little")
-        yield data, table[1]
+            data += b"".join(number.to_bytes(4, "little") for number in numbers)
+        yield data, table[2]
 
 
 def lists(behind):
@@ -255,6 +255,17 @@ def check_facts():
     return count
 
 
+def check_bytes():
+    """What is printed byte by byte, each line behind the offset of its first byte."""
+    blocks = re.findall(r"^```\n(.*?)^```$", PAGE, re.MULTILINE | re.DOTALL)
+    for name, block in zip(("columns", "spans"), blocks, strict=True):
+        lines = [line.split("  ", 1) for line in block.splitlines()]
+        data = [bytes.fromhex(line) for _, line in lines]
+        require(b"".join(data) == (ROOT / f"examples/{name}.uxt").read_bytes(), f"the bytes of {name}.uxt are others")
+        require([int(at, 16) for at, _ in lines] == [sum(map(len, data[:i])) for i in range(len(data))],
+                f"an offset in {name}.uxt is another")
+
+
 def check_links():
     headings = re.findall(r"^#+ (.*)$", PAGE, re.MULTILINE)
     names = {re.sub(r"[^a-z0-9 -]", "", heading.lower()).replace(" ", "-") for heading in headings}
@@ -264,6 +275,7 @@ def check_links():
 
 def main():
     check_links()
+    check_bytes()
     counts = check_tables(), check_shapes(), check_lists(), check_facts()
     require(min(counts) > 5, f"the page was not read: {counts}")
     print("format page: {} tables of records, {} shapes with facts, {} lists, {} kinds with facts".format(*counts))

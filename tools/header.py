@@ -36,8 +36,9 @@ def refusals():
 
 def texts():
     """The lines that must be printed."""
-    by_number = {0: "accepted", **refusals(), 13: "no such refusal", UINT_MAX: "no such refusal"}
-    return "".join(f"{number} {text}\n" for number, text in by_number.items())
+    by_number = {0: "accepted", **refusals()}
+    numbers = (*range(max(by_number) + 2), UINT_MAX)
+    return "".join(f"{number} {by_number.get(number, 'no such refusal')}\n" for number in numbers)
 
 
 def kinds():
@@ -48,10 +49,11 @@ def kinds():
 
 
 def sizes():
-    """The most that is taken or needed: N records take 8 + 16 * N bytes, an answer has 2 * N - 1, and there are 2 * N entries."""
+    """The most that is taken or needed: N records take 8 + 20 * N bytes in version 2, which are more than in version 1, an answer
+    has 2 * N - 1, and there are 2 * N entries."""
     (records,) = [row for row in rows("FORMAT.md", "Limits", "Refusals") if row[0].startswith("records")]
     reduced, listed = [int(cell.split()[-1].replace(",", "")) for cell in records[1:]]
-    return {"SRC": 8 + 16 * reduced, "OUT": 8 + 16 * (2 * reduced - 1), "LISTED_SRC": 8 + 16 * listed, "ENTRIES": 2 * listed}
+    return {"SRC": 8 + 20 * reduced, "OUT": 8 + 20 * (2 * reduced - 1), "LISTED_SRC": 8 + 20 * listed, "ENTRIES": 2 * listed}
 
 
 def main():

@@ -19,7 +19,8 @@ import sys
 
 from edges import (AND, ARRAY, ARROW, ASSIGNMENT, BINARY, CALL, CLASS, CONDITIONAL, ELEMENT, ELISION, FUNCTION, IDENTIFIER,
                    LITERAL, LOGICAL, NEW, NULLISH, OBJECT, OR, OTHER_LEAF, PROPERTY, SEQUENCE, SPREAD, TEMPLATE, THIS, UNARY,
-                   KIND, SETTINGS, SIZE, VERSION, ZERO, Node, chain, of, plus, tree_file, with_byte, with_u16)
+                   COUNT, KIND, SETTINGS, SIZE, VERSION, ZERO, Node, chain, columns, of, plus, tree_file, widened, with_byte,
+                   with_ends, with_u16)
 
 # Facts
 FLAG, NO_SYMBOL, SYMBOL, NO_STRING, ANNOTATED, LISTED, SUMMARY_FREE = 1, 2, 4, 8, 32, 64, 128
@@ -90,10 +91,10 @@ class Cases:
     def refused(self, name, data, number):
         self.cases.append((name, data, [f"refused {number}"]))
 
-    def list(self, name, root, effects, settings=0):
+    def list(self, name, root, effects, settings=0, version=1):
         """The effects by hand: a text with a space between two."""
         effects = effects.split()
-        self.cases.append((name, tree_file(root, settings), [f"count {len(effects)}"] + effects))
+        self.cases.append((name, tree_file(root, settings, version), [f"count {len(effects)}"] + effects))
 
 
 def leaves(c):
@@ -449,7 +450,7 @@ def refusals(c):
             ("no byte", b"", 1),
             ("the first 7 bytes", good[:7], 1),
             ("a wrong mark", with_byte(good, 0, 0), 1),
-            ("version 2", with_u16(good, VERSION, 2), 2),
+            ("version 3", with_u16(good, VERSION, 3), 2),
             ("settings 8", with_byte(good, SETTINGS, 8), 3),
             ("one byte short", good[:-1], 4),
             ("byte 3 of the last record is 1", with_byte(good, of(1, ZERO), 1), 5),
@@ -472,10 +473,74 @@ def refusals(c):
     c.list("the same file, whole", call(1, x(2)), "2/2/0 1/16/0")
 
 
+# ---- Version 2: document 02, N6: "Effects still carry the start"
+
+
+def widened_cases(c):
+    """The lists are those of version 1."""
+    first = Cases()
+    for group in (leaves, lists, templates, unaries, binaries, additions, classes, heritages, conditionals, logicals, tested,
+                  arrows, widest):
+        group(first)
+    for name, data, lines in first.cases:
+        c.cases.append((f"version 2: {name}", widened(data), lines))
+
+
+def spans(c):
+    """Nodes that start together end apart."""
+    f, g = call((0, 3), x((0, 1))), call((6, 9), x((6, 7)))
+    for name, root, effects in (
+            ("[1, a(), ...b]", columns(), "4/16/0 9/9/0"),
+            ("f() + g()", add((0, 9), f, g), "0/2/0 0/16/0 6/2/0 6/16/0 0/15/0"),
+            ("f() - g()", node(BINARY, (0, 9), f, g, facts=FLAG, sub=OTHER_BINARY), "0/2/0 0/16/0 6/2/0 6/16/0 0/15/0"),
+            ("'s' + g()", add((0, 9), literal((0, 3)), g), "6/2/0 6/16/0 6/16/1"),
+            ("f() + 'x'", add((0, 9), f, literal((6, 9))), "0/2/0 0/16/0 0/16/1"),
+            ("-g()", node(UNARY, (5, 9), g, facts=FLAG, sub=OTHER_UNARY), "6/2/0 6/16/0 5/14/0"),
+            ("f()(...a)", call((0, 9), f, node(SPREAD, (4, 8), x((7, 8)), facts=FLAG)), "0/2/0 0/16/0 7/2/0 4/9/0 0/16/0"),
+            ("new f(a)", node(NEW, (0, 8), x((4, 5)), x((6, 7)), facts=FLAG), "4/2/0 6/2/0 0/17/0"),
+            ("`${a}${g()}`", node(TEMPLATE, (0, 12), x((3, 4)), call((7, 10), x((7, 8), 0))), "3/2/0 3/2/1 7/16/0 7/16/1"),
+            ("@d class { static { s } }", class_of((0, 25), element((11, 23), BLOCK + NONEMPTY), sub=DECORATED_CLASS),
+             "0/18/0 11/19/0"),
+            ("f() ? a : g()", conditional((0, 13), f, x((6, 7)), call((10, 13), x((10, 11)))), "0/2/0 0/16/0 10/2/0 10/16/0"),
+            ("f() || g()", logical(OR, (0, 10), f, call((7, 10), x((7, 8)))), "0/2/0 0/16/0 7/2/0 7/16/0"),
+            ("f() && g()", logical(AND, (0, 10), f, call((7, 10), x((7, 8)))), "0/2/0 0/16/0"),
+            ("both ends the last place", x((LAST_PLACE, LAST_PLACE)), f"{LAST_PLACE}/2/0"),
+            ("from the first place to the last", x((0, LAST_PLACE)), "0/2/0")):
+        c.list(f"version 2: {name}", root, effects, version=2)
+    c.list("version 2: this, derived", node(THIS, (7, 11)), "7/6/0", DERIVED, version=2)
+    elisions = [node(ELISION, (0, 1)) for _ in range(3273)]
+    c.list("version 2: the longest that goes behind its length", node(ARRAY, (0, 9), *elisions, call((2, 4), x((2, 3)))),
+           "2/2/0 2/16/0", version=2)
+
+
+def span_refusals(c):
+    """17 comes behind 7 and the test of additions, and before 8."""
+    good = tree_file(call((1, 5), x((1, 3))), version=2)
+    wrong = add(1, literal(2), x(3), SYMBOL)
+    for name, data, number in (
+            ("version 1 called 2", with_u16(tree_file(call(1, x(2))), VERSION, 2), 4),
+            ("version 2 called 1", with_u16(good, VERSION, 1), 4),
+            ("version 513", with_u16(good, VERSION, 513), 2),
+            ("version 514", with_u16(good, VERSION, 514), 2),
+            ("one byte short", good[:-1], 4),
+            ("one byte long", good + b"\0", 4),
+            ("4,000 records counted", with_u16(good, COUNT, MOST_RECORDS + 1), 4),
+            ("the root ends before its start", with_ends(good, 0, 1, 0), 17),
+            ("the last record ends before its start", with_ends(good, 1, 1, 0), 17),
+            ("and byte 3", with_byte(with_ends(good, 0, 1, 0), of(1, ZERO, 2), 1), 5),
+            ("and an assignment", with_ends(tree_file(node(ASSIGNMENT, 1, x(2)), version=2), 1, 1, 0), 6),
+            ("and a wrong size", plus(with_ends(good, 0, 1, 0), of(1, SIZE, 2), 1), 7),
+            ("and '' + a, a symbol", with_ends(tree_file(wrong, version=2), 2, 1, 0), 5),
+            ("and an and", with_ends(tree_file(logical(AND, 1, x(2), x(3)), version=2), 2, 1, 0), 17),
+            ("and depth 66", with_ends(tree_file(chain(MOST_DEPTH + 1), version=2), 65, 1, 0), 17),
+            ("depth 66", tree_file(chain(MOST_DEPTH + 1), version=2), 8)):
+        c.refused(f"refused with {number}: version 2: {name}", data, number)
+
+
 def all_cases():
     c = Cases()
     for group in (leaves, lists, templates, unaries, binaries, additions, symbols, calls, called_functions, classes, heritages,
-                  conditionals, logicals, tested, arrows, widest, limits, refusals):
+                  conditionals, logicals, tested, arrows, widest, limits, refusals, widened_cases, spans, span_refusals):
         group(c)
     return c.cases
 
@@ -502,6 +567,10 @@ def given():
     yield "the last place", conditional(1, x(LAST_PLACE), x(3), x(4)), (0, LAST_PLACE), f"{LAST_PLACE}/2/0 3/2/0"
     yield "a place that is 2 in its lower 16 bits", one, (65538,), "2/2/0 4/2/0"
     yield "no test", call(1, x(2), x(3)), (1, 2, 3), "2/2/0 3/2/0 1/16/0"
+    yield "a test's end", conditional(1, x((2, 9)), x(3), x(4)), (9,), "2/2/0 4/2/0"
+    yield "a test's start", conditional(1, x((2, 9)), x(3), x(4)), (2,), "2/2/0 3/2/0"
+    yield ("two tests that start together and end apart",
+           conditional(0, conditional((1, 10), x((1, 2)), x(5), x(9)), x(14), x(18)), (1,), "1/2/0 5/2/0 14/2/0")
     yield from given_nested()
     for name, root, effects in around(conditional(20, x(30), x(32), x(31)), "30/2/0 32/2/0", " 20/21/1"):
         yield f"conditional {name}, yes", root, (30,), effects

@@ -1,12 +1,13 @@
 #!/usr/bin/env python3
-"""Tree files for the programs `columns` and `reduce`, which read the first 32,009 bytes.
+"""Tree files for the programs `columns` and `reduce`, which read the first 32,009 bytes and the first 40,009.
 
   programs.py files    the files, each behind its length in bytes (two bytes, little-endian)
   programs.py names    a line for each file: what it is
 
 The examples; the cases of listings.py and reductions.py, which are the stored input of the programs
-`listings` and `reductions`; two files with single bytes changed; and files about as long as a program
-reads, and longer. `driver programs` of differential/ has the answers, and names a file by its number here.
+`listings` and `reductions`; four files with single bytes changed; files of as many records as a program
+takes, and one more; and files about as long as a program reads, and longer. `driver programs` of
+differential/ has the answers, and names a file by its number here.
 """
 
 import sys
@@ -15,11 +16,12 @@ import listings
 import reductions
 import worst
 from edges import (KIND, LOGICAL, REDUCE, SETTINGS, SIZE, TEMPLATE, VERSION, ZERO, Cases, changed_bytes, example_files, flat,
-                   of, plus, tree_file, with_byte, with_u16)
+                   of, plus, tree_file, with_byte, with_ends, with_u16)
 from listings import LAST_PLACE, framed, node, sequence, x
+from reader import COLUMNS_RECORDS
 
 MOST_RECORDS = REDUCE.records
-READ = 8 + 16 * MOST_RECORDS + 1  # how many bytes a program reads
+READ_BY_COLUMNS, READ_BY_REDUCE = (of(MOST_RECORDS, 1, version) for version in (1, 2))  # how many bytes
 MOST_FRAMED = 65535
 
 
@@ -30,7 +32,8 @@ def stored():
         for name, data, *_ in script.all_cases():
             yield f"{script.__name__}: {name}", data
     for name, root, _ in worst.by_hand():
-        yield f"worst: {name}", worst.file_of(name, root)
+        for version in (1, 2):
+            yield f"worst: {name}, version {version}", worst.file_of(name, root, version)
 
 
 def changed():
@@ -40,32 +43,49 @@ def changed():
         yield name, data
 
 
+def all_kept(version, count):
+    return tree_file(sequence(0, *[x((place, MOST_RECORDS + place)) for place in range(1, count)]), version=version)
+
+
+def broken_headers(name, data):
+    yield f"{name}, mark wrong", b"uxt" + data[3:]
+    yield f"{name}, version 3", with_u16(data, VERSION, 3)
+    yield f"{name}, settings 8", with_byte(data, SETTINGS, 8)
+
+
+def most_records():
+    """As many as both programs take, or `reduce` alone, and with faults."""
+    for version, count in ((1, MOST_RECORDS), (2, COLUMNS_RECORDS), (2, COLUMNS_RECORDS + 1), (2, MOST_RECORDS)):
+        name, last, kept = f"version {version}, {count} records", count - 1, all_kept(version, count)
+        yield f"{name}, all kept", kept
+        yield f"{name}, none kept", flat(count, version)
+        yield f"{name}, the longest text", tree_file(node(TEMPLATE, 0, *[x(LAST_PLACE)] * last), version=version)
+        yield f"{name}, 5 at the last", with_byte(kept, of(last, ZERO, version), 1)
+        yield f"{name}, 6 at the last", with_byte(kept, of(last, KIND, version), LOGICAL)
+        yield f"{name}, 7 at the last", plus(kept, of(last, SIZE, version), 1)
+        if version == 2:
+            yield f"{name}, 17 at the last", with_ends(kept, last, 1, 0)
+        yield f"{name}, one byte short", kept[:-1]
+        yield from broken_headers(name, kept)
+    for version, count in ((1, MOST_RECORDS + 1), (1, 3999), (2, MOST_RECORDS + 1)):
+        yield f"version {version}, {count} records", flat(count, version)
+
+
 def long():
-    """Files of 2,000 records, with faults, and with more behind them than is read."""
-    kept = tree_file(sequence(0, *[x(place) for place in range(1, MOST_RECORDS)]))
-    coercions = tree_file(node(TEMPLATE, 0, *[x(LAST_PLACE) for _ in range(1, MOST_RECORDS)]))
-    last = MOST_RECORDS - 1
-    yield "2,000 records, all kept", kept
-    yield "2,000 records, none kept", flat(MOST_RECORDS)
-    yield "2,000 records, the longest text", coercions
-    yield "2,000 records, 5 at the last", with_byte(kept, of(last, ZERO), 1)
-    yield "2,000 records, 6 at the last", with_byte(kept, of(last, KIND), LOGICAL)
-    yield "2,000 records, 7 at the last", plus(kept, of(last, SIZE), 1)
-    yield "one byte short", kept[:-1]
-    for length in (READ, READ + 1, MOST_FRAMED):
-        more = kept.ljust(length, b"\0")
-        yield f"{length} bytes", more
-        yield f"{length} bytes, mark wrong", b"uxt" + more[3:]
-        yield f"{length} bytes, version 2", with_u16(more, VERSION, 2)
-        yield f"{length} bytes, settings 8", with_byte(more, SETTINGS, 8)
-    for count in (MOST_RECORDS + 1, 3999):
-        yield f"{count} records", flat(count)
+    """Files with more behind them than is read."""
+    for version, count in ((1, MOST_RECORDS), (2, COLUMNS_RECORDS), (2, MOST_RECORDS)):
+        kept = all_kept(version, count)
+        for length in (READ_BY_COLUMNS, READ_BY_COLUMNS + 1, READ_BY_REDUCE, READ_BY_REDUCE + 1, MOST_FRAMED):
+            if length > len(kept):
+                name, more = f"version {version}, {count} records, {length} bytes", kept.ljust(length, b"\0")
+                yield name, more
+                yield from broken_headers(name, more)
     yield "nothing", b""
-    yield "zeros", bytes(READ)
+    yield "zeros", bytes(READ_BY_REDUCE)
 
 
 def files():
-    for group in (stored, changed, long):
+    for group in (stored, changed, most_records, long):
         yield from group()
 
 

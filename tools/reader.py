@@ -1,7 +1,7 @@
 """A second reader of the tree file: whether a file is refused, for what, and where.
 
-An independent reading of document 01, "The tree file" and refusals 1 to 8, and of document 02, N1, N9 and N3: it shares no code
-with the crates. It is not proved. It calls nothing by the depth of a tree, so a file may be as deep as it has records.
+An independent reading of document 01, "The tree file" and refusals 1 to 8, and of document 02, N1, N9, N3 and N6: it shares no
+code with the crates. It is not proved. It calls nothing by the depth of a tree, so a file may be as deep as it has records.
 """
 
 import collections
@@ -23,6 +23,7 @@ class Limits(typing.NamedTuple):
 
 REDUCE = Limits(2000, 64, False)
 LIST_EFFECTS = Limits(3999, 65, True)
+COLUMNS_RECORDS = 1500  # of version 2, at most, that the program `columns` takes
 
 (LITERAL, IDENTIFIER, FUNCTION, ARROW, OTHER_LEAF, THIS, ARRAY, ELISION, SPREAD, OBJECT, PROPERTY,
  TEMPLATE, SEQUENCE, UNARY, BINARY, CALL, NEW, CLASS, ELEMENT, LOGICAL, CONDITIONAL,
@@ -31,12 +32,12 @@ LIST_EFFECTS = Limits(3999, 65, True)
 COMPARISON, ADDITION = 1, 2  # subs of a binary
 
 VERSION, SETTINGS, COUNT = 3, 5, 6  # offsets in the header
-KIND, FACTS, SUB, ZERO, CHILDREN, SIZE = 0, 1, 2, 3, 4, 6  # offsets in a record
-NAMES = {KIND: "kind", FACTS: "facts", SUB: "sub", ZERO: "byte 3", CHILDREN: "children", SIZE: "size"}
+KIND, FACTS, SUB, ZERO, CHILDREN, SIZE, START, END = 0, 1, 2, 3, 4, 6, 12, 16  # offsets in a record
+NAMES = {KIND: "kind", FACTS: "facts", SUB: "sub", ZERO: "byte 3", CHILDREN: "children", SIZE: "size", START: "start", END: "end"}
 
-Record = collections.namedtuple("Record", "kind facts sub zero children size")
-FIELDS = struct.Struct("<BBBBHH8x")
-NOTHING = Record(0, 0, 0, 0, 0, 0)  # above the root
+Record = collections.namedtuple("Record", "kind facts sub zero children size start end at")  # at: its offset in the file
+FIELDS = {1: struct.Struct("<BBBBHH4xI"), 2: struct.Struct("<BBBBHH4xII")}  # by version
+NOTHING = Record(*[0] * 9)  # above the root
 
 
 @dataclasses.dataclass(frozen=True)
@@ -54,7 +55,7 @@ class Fault:
 
 def fault(data, limits):
     """What the file is refused for, or None. The tests are in the order of their numbers, each over the whole file; but that of
-    additions is number 5, too, and needs the shape."""
+    additions is number 5, too, and needs the shape, and behind it comes 17."""
     found = header_fault(data, limits.records)
     if found:
         return found
@@ -63,8 +64,8 @@ def fault(data, limits):
     if found:
         return found
     parents, _ = nesting(records)
-    return (count_fault(records) or place_fault(records, parents) or addition_fault(records)
-            or depth_fault(parents, limits.depth))
+    return (count_fault(records) or place_fault(records, parents) or addition_fault(records) or end_fault(records)
+            or depth_fault(records, parents, limits.depth))
 
 
 def answer(data, limits):
@@ -83,13 +84,16 @@ def u16(data, at):
     return data[at] + 256 * data[at + 1]
 
 
-def of(record, field):
+def of(record, field, version=1):
     """The offset of a field of a record in the file."""
-    return 8 + 16 * record + field
+    return 8 + FIELDS[version].size * record + field
 
 
 def records_of(data):
-    return [Record._make(fields) for fields in FIELDS.iter_unpack(data[8:])]
+    """In version 1, which has no ends, the start stands for the end."""
+    version = u16(data, VERSION)
+    rows = enumerate(FIELDS[version].iter_unpack(data[8:]))
+    return [Record(*row[:7], end=row[-1], at=of(i, 0, version)) for i, row in rows]
 
 
 def bits(byte):
@@ -106,14 +110,15 @@ def header_fault(data, most_records):
         return Fault(1, "length", len(data), len(data), "at least 8 is due", RULES["header"])
     if data[:3] != b"UXT":
         return Fault(1, "mark", "{} {} {}".format(*data[:3]), 0, "85 88 84 is due", RULES["mark"])
-    if u16(data, VERSION) != 1:
-        return Fault(2, "version", u16(data, VERSION), VERSION, "1 is due", RULES["version"])
+    version = u16(data, VERSION)
+    if version not in FIELDS:
+        return Fault(2, "version", version, VERSION, "1 or 2 is due", RULES["version"])
     if data[SETTINGS] >= 8:
         return Fault(3, "settings", data[SETTINGS], SETTINGS, bits(data[SETTINGS] & ~7), RULES["settings"])
     count = u16(data, COUNT)
     if not 1 <= count <= most_records:
         return Fault(4, "record count", count, COUNT, f"1 to {most_records} is due", RULES["count"])
-    due = 8 + 16 * count
+    due = of(count, 0, version)
     if len(data) != due:
         note = f"the file has {len(data)} bytes, {due} are due"
         return Fault(4, "record count", count, COUNT, note, RULES["length"])
@@ -125,7 +130,7 @@ def header_fault(data, most_records):
 
 def in_record(number, records, i, field, note, rule, others=()):
     value = records[i][list(NAMES).index(field)]
-    return Fault(number, NAMES[field], value, of(i, field), note, rule, i, others)
+    return Fault(number, NAMES[field], value, records[i].at + field, note, rule, i, others)
 
 
 def fields_fault(records):
@@ -367,13 +372,23 @@ def is_addition(record):
     return record.kind == BINARY and record.sub == ADDITION
 
 
+# ---- The ends: 17
+
+
+def end_fault(records):
+    for i, r in enumerate(records):
+        if r.end < r.start:
+            return in_record(17, records, i, END, f"at least {r.start} is due, its start", RULES["end"])
+    return None
+
+
 # ---- The depth: 8
 
 
-def depth_fault(parents, most_depth):
+def depth_fault(records, parents, most_depth):
     for i, level in enumerate(levels(parents)):
         if level > most_depth:
-            return Fault(8, "depth", level, of(i, 0), f"at most {most_depth} is due", RULES["depth"], i)
+            return Fault(8, "depth", level, records[i].at, f"at most {most_depth} is due", RULES["depth"], i)
     return None
 
 

@@ -14,14 +14,15 @@ is 0 always. The stored output of the program is made by the plain port (`driver
 differential/), which shares no code with the proved crates; `check` holds it to the answers here.
 
 An answer by hand is a tree that stands beside the case, or in a family of cases is built beside it:
-this script has no Reduce. Only the flag of a made node follows from its children (`made`).
+this script has no Reduce. Only the flag of a made node follows from its children (`made`). What can be
+lent, 65,535 bytes, is enough for 1,638 records of version 2; python/test_uxt.py has longer ones.
 """
 
 import sys
 
-from edges import (AND, ARRAY, ARROW, ASSIGNMENT, BINARY, CALL, CONDITIONAL, COUNT, ELISION, FUNCTION, IDENTIFIER, KIND, LOGICAL,
-                   NEW, NULLISH, OBJECT, OR, OTHER_LEAF, PROPERTY, SEQUENCE, SETTINGS, SIZE, SPREAD, TEMPLATE, THIS, UNARY,
-                   VERSION, ZERO, Node, chain, columns, of, plus, tree_file, u16, with_byte, with_u16)
+from edges import (AND, ARRAY, ARROW, ASSIGNMENT, BINARY, CALL, CONDITIONAL, COUNT, ELISION, FIELDS, FUNCTION, IDENTIFIER, KIND,
+                   LOGICAL, NEW, NULLISH, OBJECT, OR, OTHER_LEAF, PROPERTY, SEQUENCE, SETTINGS, SIZE, SPREAD, TEMPLATE, THIS,
+                   UNARY, VERSION, ZERO, Node, chain, columns, of, plus, tree_file, u16, widened, with_byte, with_ends, with_u16)
 from listings import (ACCESSOR, ANNOTATED, ANNOTATIONS, BLOCK, COMPARISON, DECORATED, DECORATED_CLASS, DERIVED,
                       FIELD, FLAG, HERITAGE, INDEX_SIGNATURE, KEY, LAST_PLACE, LISTED, METHOD, NO_SYMBOL, NONEMPTY, NOT,
                       OTHER_BINARY, OTHER_UNARY, STATIC, STRING, SUMMARY_FREE, SYMBOL, TREE_SHAKE_ONLY, TYPEOF, VALUE,
@@ -127,7 +128,7 @@ FILLS = (0xA5, 0x00, 0xFF, 0x55, 0x01)  # 55 is the first byte of a file
 
 def room(data):
     """The fewest bytes that are enough for an answer."""
-    return 8 + 16 * (2 * u16(data, COUNT) - 1)
+    return of(2 * u16(data, COUNT) - 1, 0, u16(data, VERSION))
 
 
 def printed(lent, answer):
@@ -136,7 +137,8 @@ def printed(lent, answer):
         return [f"refused {answer}", f"tail {lent} 0"]
     if answer == REMOVABLE:
         return ["removable", f"tail {lent} 0"]
-    records = [answer[at:at + 16].hex() for at in range(8, len(answer), 16)]
+    width = FIELDS[u16(answer, VERSION)].size
+    records = [answer[at:at + width].hex() for at in range(8, len(answer), width)]
     return [f"kept {len(answer)}", answer[:8].hex(), *records, f"tail {lent - len(answer)} 0"]
 
 
@@ -148,19 +150,19 @@ class Cases:
         index = len(self.cases)
         lent = room(data) + SPARE[index % len(SPARE)] if lent is None else lent
         fill = FILLS[index % len(FILLS)] if fill is None else fill
-        self.cases.append((name, data, lent, fill, printed(lent, answer)))
+        self.cases.append((name, data, lent, fill, answer))
 
     def refused(self, name, data, number, lent=64, fill=None):
         self.add(f"refused with {number}: {name}", data, number, lent, fill)
 
-    def removable(self, name, root, settings=0, lent=None, fill=None):
-        self.add(name, tree_file(root, settings), REMOVABLE, lent, fill)
+    def removable(self, name, root, settings=0, lent=None, fill=None, version=1):
+        self.add(name, tree_file(root, settings, version), REMOVABLE, lent, fill)
 
-    def kept(self, name, root, answer, settings=0, lent=None, fill=None):
-        self.add(name, tree_file(root, settings), tree_file(answer, settings), lent, fill)
+    def kept(self, name, root, answer, settings=0, lent=None, fill=None, version=1):
+        self.add(name, tree_file(root, settings, version), tree_file(answer, settings, version), lent, fill)
 
-    def unchanged(self, name, root, settings=0, lent=None, fill=None):
-        self.kept(name, root, root, settings, lent, fill)
+    def unchanged(self, name, root, settings=0, lent=None, fill=None, version=1):
+        self.kept(name, root, root, settings, lent, fill, version)
 
     def either(self, name, root, answer, settings=0):
         """No answer: removable."""
@@ -947,7 +949,8 @@ def refusals(c):
             ("no byte", b"", 1),
             ("the first 7 bytes", good[:7], 1),
             ("a wrong mark", with_byte(good, 0, 0), 1),
-            ("version 2", with_u16(good, VERSION, 2), 2),
+            ("version 0", with_u16(good, VERSION, 0), 2),
+            ("version 3", with_u16(good, VERSION, 3), 2),
             ("version 257", with_u16(good, VERSION, 257), 2),
             ("settings 8", with_byte(good, SETTINGS, 8), 3),
             ("settings 128", with_byte(good, SETTINGS, 128), 3),
@@ -1025,11 +1028,179 @@ def lent_bytes(c):
         c.kept(f"settings {settings} are copied", two, x(2), settings)
 
 
+# ---- Version 2: document 02, N6: "every made node copies both ends from the node that gave it its place"
+
+
+def widened_cases(c):
+    """What is left is what is left in version 1."""
+    first = Cases()
+    for group in (rows, leaves, unaries, sequences, arrays, templates, objects, comparisons, chains, additions, arguments, classes,
+                  conditionals, conditional_places, nested):
+        group(first)
+    for name, data, _, _, answer in first.cases:
+        c.add(f"version 2: {name}", widened(data), answer if answer == REMOVABLE else widened(answer))
+
+
+def f_at(start, facts=FLAG):
+    """f(), and f, which starts with it and ends before it."""
+    return call((start, start + 3), clear((start, start + 1)), facts=facts)
+
+
+def spans(c):
+    """Where two nodes start together only the end tells which of them gave its place."""
+    for group in (made_sequences, made_templates, made_others, emptied, recorded):
+        for name, root, answer, *settings in group():
+            c.kept(f"version 2: {name}", root, answer, *settings, version=2)
+    c.removable("version 2: typeof y", unary(TYPEOF, (0, 8), x((7, 8))), version=2)
+
+
+def made_sequences():
+    f, g, one = f_at(0), f_at(6), number((6, 7))
+    yield "[f(), g()]", array((0, 10), f_at(1), f_at(6)), several((0, 10), f_at(1), f_at(6))
+    yield ("`${f()}${g()}`", template((0, 14), f_at(3, INNER), f_at(9, INNER)),
+           several((0, 14), f_at(3, INNER), f_at(9, INNER)))
+    yield "({[f()]: g()})", obj((1, 13), prop((2, 12), f_at(3), f_at(9))), several((1, 13), f_at(3), f_at(9))
+    yield "a(f(), g()), pure", call((0, 11), x((0, 1)), f_at(2), f_at(7), facts=LISTED), several((0, 11), f_at(2), f_at(7))
+    yield "new a(f(), g()), pure", new((0, 15), x((4, 5)), f_at(6), f_at(11), facts=LISTED), several((0, 15), f_at(6), f_at(11))
+    yield "f() < g()", compare((0, 9), f, g), several((0, 9), f, g)
+    yield ("(f(), 1) < g()", compare((0, 14), sequence((1, 7), f_at(1), one), f_at(11)), several((0, 14), f_at(1), f_at(11)))
+    yield ("f() < (g(), h())", compare((0, 16), f, sequence((7, 15), f_at(7), f_at(12))),
+           several((0, 16), f, f_at(7), f_at(12)))
+    right = sequence((14, 22), f_at(14), f_at(19))
+    yield ("(f(), g()) < (h(), i())", compare((0, 23), sequence((1, 9), f_at(1), f_at(6)), right),
+           several((0, 23), f_at(1), f_at(6), right))
+    yield ("class extends h() { static a = 1; [k()]() {} }",
+           class_of((0, 46), f_at(14), element((20, 33), FIELD + STATIC + VALUE, number((31, 32))),
+                    element((34, 44), METHOD + KEY, f_at(35)), sub=HERITAGE),
+           several((0, 46), f_at(14), number((31, 32)), f_at(35)))
+    yield ("class { static p = 1 }", class_of((0, 22), element((8, 20), FIELD + STATIC + VALUE, number((19, 20))), facts=0),
+           several((0, 22), number((19, 20))))
+
+
+def made_templates():
+    """At what is left of the next kept child, not at the child; at the end, at the template."""
+    s = clear((3, 4))
+    for name, end, inner, left in (
+            ("void f()", 15, void((7, 15), f_at(12), INNER), f_at(12)),
+            ("f() ? 1 : 2", 18, conditional((7, 18), f_at(7), number((13, 14)), number((17, 18)), INNER), f_at(7)),
+            ("f() < x", 14, compare((7, 14), f_at(7), clear((13, 14)), INNER), f_at(7)),
+            ("x < f()", 14, compare((7, 14), clear((7, 8)), f_at(11), INNER), f_at(11)),
+            ("f() < g()", 16, compare((7, 16), f_at(7), f_at(13), INNER), several((7, 16), f_at(7), f_at(13))),
+            ("[f()]", 12, array((7, 12), f_at(8), facts=INNER), f_at(8)),
+            ("[f(), g()]", 17, array((7, 17), f_at(8), f_at(13), facts=INNER), several((7, 17), f_at(8), f_at(13))),
+            ("f() ? 1 : g()", 20, conditional((7, 20), f_at(7), number((13, 14)), f_at(17), INNER),
+             made_or((7, 20), f_at(7), f_at(17)))):
+        whole, t = (0, end + 6), clear((end + 3, end + 4))
+        yield (f"`${{s}}${{{name}}}${{t}}`", template(whole, s, inner, t),
+               several(whole, made(TEMPLATE, left.place, s), left, made(TEMPLATE, whole, t)))
+    yield "`x${s}`", spelled(9, template((0, 7), clear((4, 5)))), made(TEMPLATE, (0, 7), clear((4, 5)))
+
+
+def made_others():
+    """Objects, arrays and logicals."""
+    first, last = spread((2, 6), clear((5, 6)), 0), spread((16, 20), clear((19, 20)))
+    yield ("({...x, a: f(), ...y})", obj((1, 21), first, prop((8, 14), f_at(11)), last),
+           several((1, 21), made(OBJECT, (8, 14), first), f_at(11), made(OBJECT, (1, 21), last)))
+    yield "({...x, a: 1})", obj((1, 13), first, prop((8, 12), number((11, 12)))), made(OBJECT, (8, 12), first)
+    yield ("({...x, [f()]: g()})", obj((1, 19), first, prop((8, 18), f_at(9), f_at(15))),
+           several((1, 19), made(OBJECT, (8, 18), first), f_at(9), f_at(15)))
+    yield ("({a: 1, ...y})", obj((1, 13), prop((2, 6), number((5, 6))), spread((8, 12), clear((11, 12)))),
+           made(OBJECT, (1, 13), spread((8, 12), clear((11, 12)))))
+    spreads = spread((23, 27), clear((26, 27)))
+    yield ("/* @__PURE__ */ f(g(), ...h)", call((16, 28), clear((16, 17)), f_at(18), spreads, facts=FLAG + ANNOTATED),
+           several((16, 28), f_at(18), made(ARRAY, (23, 27), spreads)), ANNOTATIONS)
+    yield ("f(...g()), pure", call((0, 9), x((0, 1)), spread((2, 8), f_at(5)), facts=LISTED),
+           made(ARRAY, (2, 8), spread((2, 8), f_at(5))))
+    f, one = f_at(0), number((6, 7))
+    yield "f() ? 1 : g()", conditional((0, 13), f, one, f_at(10)), made_or((0, 13), f, f_at(10))
+    yield "f() ? g() : 1", conditional((0, 13), f, f_at(6), number((12, 13))), made_and((0, 13), f, f_at(6))
+    inner = conditional((1, 14), f_at(1), f_at(7), number((13, 14)))
+    yield ("(f() ? g() : 1) ? h() : 2", conditional((0, 25), inner, f_at(18), number((24, 25))), made_and((0, 25), inner, f_at(18)))
+    yield ("f() ? g() ? h() : 1 : 2",
+           conditional((0, 23), f, conditional((6, 19), f_at(6), f_at(12), number((18, 19))), number((22, 23))),
+           made_and((0, 23), f, made_and((6, 19), f_at(6), f_at(12))))
+
+
+def emptied():
+    """The empty literal has the ends of the side that it stands for, and not of the addition or of what is in the side."""
+    s, t = clear((0, 1)), clear((10, 11))
+    yield "'a' + f()", add((0, 9), string((0, 3)), f_at(6)), add((0, 9), literal((0, 3)), f_at(6))
+    yield "s + 'x'", add((0, 7), s, string((4, 7))), add((0, 7), s, literal((4, 7)))
+    yield ("'a' + s + t, the left one clear", add((0, 11), add((0, 7), string((0, 3)), clear((6, 7)), 0), t),
+           add((0, 11), literal((0, 7)), t))
+    yield ("'a' + b + t, the left one folded", add((0, 11), add((0, 7), string((0, 3)), plain((6, 7))), t),
+           add((0, 11), literal((0, 3)), t))
+    yield ("s + ('a' + t), the right one clear", add((0, 13), s, add((5, 12), string((5, 8)), clear((11, 12)), STRING)),
+           add((0, 13), s, literal((5, 12))))
+
+
+def recorded():
+    """What is not made keeps both its ends, and so does what takes another's place."""
+    f = f_at(0)
+    _, a, b = columns().children
+    yield "[1, a(), ...b]", columns(), array((0, 14), a, b)
+    yield "f(), 1", sequence((0, 6), f, number((5, 6))), sequence((0, 6), f)
+    yield "void f()", void((0, 8), f_at(5)), f_at(5)
+    yield "[f()]", array((0, 5), f_at(1)), f_at(1)
+    yield "f() ? 1 : 2", conditional((0, 11), f, number((6, 7)), number((10, 11))), f
+    yield ("f() ? [g()] : h()", conditional((0, 17), f, array((6, 11), f_at(7)), f_at(14)),
+           conditional((0, 17), f, f_at(7), f_at(14)))
+    text = call((0, 3), clear((0, 1)), facts=FLAG + STRING)
+    yield "f() + 'x', f() a string", add((0, 9), text, string((6, 9))), text
+    yield "both ends the last place", x((LAST_PLACE, LAST_PLACE)), x((LAST_PLACE, LAST_PLACE))
+    yield ("from the first place to the last", array((0, LAST_PLACE), x((0, LAST_PLACE)), x((0, 1))),
+           several((0, LAST_PLACE), x((0, LAST_PLACE)), x((0, 1))))
+
+
+def span_refusals(c):
+    """17 comes behind 7 and the test of additions, and before 8 and 9."""
+    good, ended = (with_ends(tree_file(call(1, x(1)), version=2), 1, 5, end) for end in (5, 4))
+    for name, data, answer in (
+            ("version 1 called 2", with_u16(tree_file(call(1, x(1))), VERSION, 2), 4),
+            ("version 2 called 1", with_u16(good, VERSION, 1), 4),
+            ("version 513", with_u16(good, VERSION, 513), 2),
+            ("version 514", with_u16(good, VERSION, 514), 2),
+            ("one byte short", good[:-1], 4),
+            ("one byte long", good + b"\0", 4),
+            ("2,001 records counted", with_u16(good, COUNT, MOST_RECORDS + 1), 4),
+            ("an end before its start", ended, 17),
+            ("an end before its start, and version 3", with_u16(ended, VERSION, 3), 2),
+            ("an end before its start, and byte 3", with_byte(ended, of(0, ZERO, 2), 1), 5),
+            ("an end before its start, and a logical", with_byte(ended, of(0, KIND, 2), LOGICAL), 6),
+            ("an end before its start, and a wrong size", plus(ended, of(0, SIZE, 2), 1), 7),
+            ("an end before its start, and '' + a, a symbol",
+             tree_file(add(1, literal(2), x((3, 2)), SYMBOL), version=2), 5),
+            ("an end before its start, and depth 65", tree_file(chain(MOST_DEPTH + 1, inner=lambda: x((3, 2))), version=2), 17),
+            ("depth 65", tree_file(chain(MOST_DEPTH + 1), version=2), 8)):
+        c.refused(f"version 2: {name}", data, answer)
+        c.refused(f"version 2: {name}, and nothing lent", data, answer, lent=0)
+    c.add("version 2: an end at its start", good, good)
+
+
+def span_lent_bytes(c):
+    """N = 1 needs 28 bytes, and N = 2 needs 68."""
+    one, two = x((1, 2)), void((1, 9), x((6, 8)))
+    for lent in (0, 8, 24, 27):
+        c.refused(f"version 2: a flagged leaf, {lent} bytes lent", tree_file(one, version=2), 9, lent)
+        c.refused(f"version 2: a clear leaf, {lent} bytes lent", tree_file(clear(1), version=2), 9, lent)
+    for lent in (28, 29, 48, 65535):
+        c.unchanged(f"version 2: a flagged leaf, {lent} bytes lent", one, lent=lent, version=2)
+        c.removable(f"version 2: a clear leaf, {lent} bytes lent", clear(1), lent=lent, version=2)
+    for lent in (56, 67):
+        c.refused(f"version 2: two records of which one is left, {lent} bytes lent", tree_file(two, version=2), 9, lent)
+    for settings in range(8):
+        c.kept(f"version 2: settings {settings} are copied", two, x((6, 8)), settings, lent=68, version=2)
+    kept_ones = [x((place, place + 9)) for place in (2, 3, 4)]
+    wide = array((1, 99), *kept_ones, *[elision((5, 6)) for _ in range(1638 - 1 - len(kept_ones))])
+    c.refused("version 2: 1,638 records, 65,507 bytes lent", tree_file(wide, version=2), 9, 65507)
+    c.kept("version 2: 1,638 records, 65,508 bytes lent", wide, several((1, 99), *kept_ones), lent=65508, version=2)
+
+
 def all_cases():
     c = Cases()
     for group in (rows, leaves, unaries, sequences, arrays, templates, objects, comparisons, chains, additions, symbols, calls,
-                  arguments, called_functions, classes, conditionals, conditional_places, nested, limits, refusals, conditional_refusals,
-                  symbol_refusals, lent_bytes):
+                  arguments, called_functions, classes, conditionals, conditional_places, nested, limits, refusals,
+                  conditional_refusals, symbol_refusals, lent_bytes, widened_cases, spans, span_refusals, span_lent_bytes):
         group(c)
     return c.cases
 
@@ -1045,7 +1216,8 @@ def write_cases(out):
 def check(text):
     """Stops at the first case whose answer is not the one by hand."""
     lines = text.splitlines()
-    for name, _, _, _, hand in all_cases():
+    for name, _, lent, _, answer in all_cases():
+        hand = printed(lent, answer)
         read, lines = lines[:len(hand)], lines[len(hand):]
         if read != hand:
             sys.exit(f"reductions.py: {name}: printed is {read}, and by hand it is {hand}")

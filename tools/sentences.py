@@ -7,14 +7,15 @@ all of them to the page.
 # The table of refusals: the file is refused if ..
 MEANS = {
     1: "it has under 8 bytes, or its mark is wrong",
-    2: "its version is not 1",
+    2: "its version is neither 1 nor 2",
     3: "one of the setting bits 3 to 7 is set",
-    4: "its count N is not in the operation's range, or its length is not 8 + 16 × N bytes",
+    4: "its count N is not in the operation's range, or its length is not 8 + 16 × N bytes, with 20 for 16 in version 2",
     5: "a record's kind is not 1 to 22, or its facts or its sub do not fit its kind, or its byte 3 is not 0, or it is an addition"
        ' with a string part and its symbol fact is "yes"; this last is tested behind 7',
     6: "a record is of kind 22, or of kind 20 (List effects takes one with sub 1 or 2)",
     7: "a record's number of children does not fit its kind and sub, a subtree size does not fit the records, the root's size"
        " is not N, or a kind stands where it may not",
+    17: "a record's end lies before its start",
     8: "the depth is over the operation's limit",
 }
 
@@ -22,10 +23,11 @@ MEANS = {
 RULES = {
     "header": "A file begins with these 8 bytes.",
     "mark": "0–2 | mark | `UXT`, that is 85, 88, 84",
-    "version": "3–4 | version | 1",
+    "version": "3–4 | version | 1 or 2",
     "settings": "5 | settings | bits 0–2 below; bits 3–7 are 0",
     "count": "6–7 | record count N | 1 to 2,000 for Reduce, 1 to 3,999 for List effects",
-    "length": "N records follow the header, and nothing follows them: the file has exactly 8 + 16 × N bytes.",
+    "length": "N records follow the header, and nothing follows them: the file has exactly 8 + 16 × N bytes, in version 2 exactly"
+              " 8 + 20 × N.",
 
     "kind": "0 | kind | 1 to 22",
     "string facts": "A string literal has exactly 18: no flag, symbol no, string yes.",
@@ -58,6 +60,8 @@ RULES = {
     "other child": "Every other child is an expression: the argument of a spread or a unary, both sides of a binary or a logical,"
                    " the test and both arms of a conditional, the expressions of a template and of a sequence, a property's key and"
                    " value, an element's key and value.",
+
+    "end": "An end does not lie before its start; it may be equal to it.",
 
     "depth": "depth | at most 64 | at most 65",
 }

@@ -17,8 +17,8 @@ import sys
 
 import assemble
 from edges import (AND, ARRAY, ARROW, ASSIGNMENT, BINARY, CALL, CLASS, CONDITIONAL, ELEMENT, ELISION, FUNCTION, IDENTIFIER,
-                   LITERAL, LOGICAL, NEW, OBJECT, OR, OTHER_LEAF, PROPERTY, SEQUENCE, SPREAD, TEMPLATE, THIS, UNARY, LIST_EFFECTS, Node,
-                   answer, chain, identifier, sample, tree_file)
+                   LIST_EFFECTS, LITERAL, LOGICAL, NEW, OBJECT, OR, OTHER_LEAF, PROPERTY, SEQUENCE, SPREAD, TEMPLATE, THIS, UNARY,
+                   Node, answer, chain, flat, identifier, sample, tree_file)
 from explain import explanation
 from listings import MOST_DEPTH, MOST_RECORDS
 from reader import element_sub_fault, facts_fault
@@ -32,8 +32,9 @@ def every_word():
     """Each kind, with each of its subs; each byte of facts; numbers that tell their bytes apart; ten levels."""
     facts = [x for x in range(256) if not facts_fault(CALL, x)]
     numbers = [0, 1, 0x100, 0x10000, 0x1000000, 0x01020304, 2 ** 32 - 1]
+    places = list(zip(numbers, numbers[1:] + numbers[-1:]))
     return Node(SEQUENCE, *[Node(kind) for kind in (LITERAL, FUNCTION, ARROW, OTHER_LEAF, THIS)],
-                *[Node(IDENTIFIER, text=text, place=place) for text, place in zip(numbers, reversed(numbers))],
+                *[Node(IDENTIFIER, text=text, place=place) for text, place in zip(numbers, reversed(places))],
                 Node(ARRAY, Node(ELISION), Node(SPREAD, identifier()), Node(SPREAD, Node(ARRAY), facts=1)),
                 Node(OBJECT, *[sample(PROPERTY, sub) for sub in (0, 1)], sample(SPREAD)),
                 Node(TEMPLATE, Node(LITERAL, text=1), Node(TEMPLATE), text=2),
@@ -44,8 +45,8 @@ def every_word():
                 chain(9), identifier())
 
 
-def stored():
-    return tree_file(every_word(), settings=7)
+def stored(version=1):
+    return tree_file(every_word(), settings=7, version=version)
 
 
 def expected(data):
@@ -69,16 +70,18 @@ def files():
 
 def few_files():
     """Those that assemble.py is run on by itself, which takes longer."""
-    yield "the stored file", stored()
     for name in sorted(glob.glob(f"{HERE.parent}/examples/*.uxt")):
         yield name, pathlib.Path(name).read_bytes()
-    wide = Node(ARRAY, *[identifier() for _ in range(MOST_RECORDS - MOST_DEPTH + 1)])
-    whole = tree_file(chain(MOST_DEPTH - 1, inner=lambda: wide))
-    yield "as many records and levels as are taken", whole
-    yield "the longest file, and a byte more", whole + b"\0"
+    for version in (1, 2):
+        yield f"every word, version {version}", stored(version)
+        wide = Node(ARRAY, *[Node(IDENTIFIER, place=(0, 2 ** 32 - 1)) for _ in range(MOST_RECORDS - MOST_DEPTH + 1)])
+        whole = tree_file(chain(MOST_DEPTH - 1, inner=lambda: wide), version=version)
+        yield f"as many records and levels as are taken, version {version}", whole
+        yield f"the longest file, and a byte more, version {version}", whole + b"\0"
+        yield f"settings 8, version {version}", tree_file(identifier(), settings=8, version=version)
     yield "five bytes", whole[:5]
     yield "kind 0", tree_file(Node(0))
-    yield "settings 8", tree_file(identifier(), settings=8)
+    yield "4,000 records of version 2", flat(MOST_RECORDS + 1, 2)
 
 
 # ---- The texts
@@ -90,9 +93,16 @@ SAME = (  # texts of one file
     "uxt 1 annotations derived\r\ncall place 5 text 7 annotated string-no effect\r\n  this\r\n",
 )
 
+SAME_2 = (
+    "uxt 2\narray text 0 place 0..8\n  this text 3 place 4294967295..4294967295\n  this text 0 place 0..0\n",
+    "uxt 2\narray place 00..08\n  this place 4294967295..4294967295 text 3\n  this\n",
+)
+
 REFUSED = (  # the number, and a text that it is the answer to
-    (2, "uxt 2\nthis"),
+    (2, "uxt 0\nthis"),
+    (2, "uxt 3\nthis place 7"),
     (4, "uxt 1"),
+    (4, "uxt 2"),
     (5, "uxt 1\nstring"),
     (5, "uxt 1\nstring symbol-no string-yes effect"),
     (5, "uxt 1\nidentifier symbol-no symbol-yes"),
@@ -118,6 +128,9 @@ REFUSED = (  # the number, and a text that it is the answer to
     (7, "uxt 1\nobject\n  property key\n    this"),
     (7, "uxt 1\ntemplate\n  spread\n    this"),
     (8, "uxt 1\n" + "".join("  " * level + "sequence\n" for level in range(66))),
+    (17, "uxt 2\nthis place 7..6"),
+    (17, "uxt 2\n" + "".join("  " * level + "sequence place 1..0\n" for level in range(66))),
+    (7, "uxt 2\narray\n  property place 1..0\n    this"),
 )
 
 FAULTS = (  # what is wrong, and the text
@@ -146,6 +159,14 @@ FAULTS = (  # what is wrong, and the text
     ("line 2: 'place' is no number from 0 to 4294967295", "uxt 1\nthis text place 1"),
     ("line 2: '-1' is no number from 0 to 4294967295", "uxt 1\nthis place -1"),
     ("line 2: '4294967296' is no number from 0 to 4294967295", "uxt 1\nthis place 4294967296"),
+    ("line 2: '4..7' has an end, which a place of version 1 has not", "uxt 1\nthis place 4..7"),
+    ("line 3: '4..7' has an end, which a place of version 3 has not", "uxt 3\narray\n  this place 4..7"),
+    ("line 2: '4' has no end: a place of version 2 is START..END", "uxt 2\nthis place 4"),
+    ("line 2: '' is no number from 0 to 4294967295", "uxt 2\nthis place 4.."),
+    ("line 2: '' is no number from 0 to 4294967295", "uxt 2\nthis place ..7"),
+    ("line 2: '.7' is no number from 0 to 4294967295", "uxt 2\nthis place 4...7"),
+    ("line 2: '4294967296' is no number from 0 to 4294967295", "uxt 2\nthis place 4..4294967296"),
+    ("line 2: the number behind 'place' is missing", "uxt 2\nthis place"),
     ("line 65537: a file has 65535 records at most", "uxt 1\narray\n" + 65535 * "  elision\n"),
 )
 
@@ -212,8 +233,9 @@ def check(program):
         check_file(program, name, data)
     for name, data in few_files():
         check_show(name, data)
-    for text in SAME:
-        require(assemble.show(assemble.assemble(text)) == SAME[0], f"{text!r} assembles to another file")
+    for texts in (SAME, SAME_2):
+        for text in texts:
+            require(assemble.show(assemble.assemble(text)) == texts[0], f"{text!r} assembles to another file")
     for number, text in REFUSED:
         require(expected(assemble.assemble(text)) == f"refused {number}\n", f"{text!r} is not refused with {number}")
         check_file(program, text, assemble.assemble(text))

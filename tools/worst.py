@@ -9,7 +9,8 @@
 Each kind of list with as many siblings as 2,000 records allow; each way down, 64 levels deep; each list at
 the end of each way, and each heritage and chain of additions of which the end is asked for; siblings at
 every level of each way; and trees whose answers are longer or deeper than they are. No two records of a
-file have the same place, so that a place that is wrong shows.
+file have a start or an end in common, so that a place that is wrong shows. The files are of version 1:
+`stack` runs each as version 2, too, and python/test_uxt.py holds version 2 to the answers by hand.
 
 The answer that comes nearest to 2 * N - 1 records is, as far as a search went, that of `grown`: templates
 within templates, each with a symbol that waits before and after what is in it. N records become at most
@@ -334,11 +335,12 @@ def by_hand():
 
 
 def numbered(root):
-    """Gives each record a place of its own."""
+    """Gives each record a place of its own, whose end is no other's start."""
     places = itertools.count(1)
 
     def number(node):
-        node.place = next(places)
+        start = next(places)
+        node.place = start, MOST_RECORDS + start
         for child in node.children:
             number(child)
 
@@ -355,8 +357,8 @@ def trees():
         yield name, root, None
 
 
-def file_of(name, root):
-    data = tree_file(numbered(root))
+def file_of(name, root, version=1):
+    data = tree_file(numbered(root), version=version)
     if u16(data, COUNT) > MOST_RECORDS or depth(root) > MOST_DEPTH:
         sys.exit(f"worst.py: {name}: {u16(data, COUNT)} records, {depth(root)} levels")
     return data

@@ -91,7 +91,7 @@ module _ {s : List ℕ} {at : ℕ} (size : ℕ) (b : Bool) (p : Tells s at isAdd
   sum-at : (t : Tree) {depth : ℕ} → Input s at size depth (one t) → SidesAt s at size depth t
   sum-at t i = sides-at t (sym (p .by t (input-node i)) ∙ v) i
 
-  module _ {pos room : ℕ} (g : GivenTree s at size pos room) where
+  module _ {old : List ℕ} {pos : ℕ} (g : GivenTree s at size old pos) where
     abbrev S : SidesAt s at size (g .depth) (g .tree)
     S = sum-at (g .tree) (g .input)
 
@@ -102,27 +102,28 @@ module _ {s : List ℕ} {at : ℕ} (size : ℕ) (b : Bool) (p : Tells s at isAdd
       pub left-less : z < size
       left-less = omega (arith, S .sized)
 
-      pub left-given : GivenTree s (at + 1) z (pos + 1) room
-      left-given = rw ez (record { tree = S .l; depth = g .depth - 1; input = S .left-in; fits = omega (arith, g .fits, S .sized) })
+      pub left-given : GivenTree s (at + 1) z old (pos + 1)
+      left-given = rw ez (record { tree = S .l; depth = g .depth - 1; input = S .left-in; same = g .same; fits = omega (arith, g .fits, S .sized) })
 
       pub right-inside : at + 1 + z + 1 ≤ recordsIn s
       right-inside = omega (arith, ez, S .right-in .inside, some-size (S .right-in))
 
       -- What `fold_sides` is given.
-      pub sides-given : {old mid : List ℕ} {next : ℕ} {string : Bool} → Folds s (at + 1) z old mid (pos + 1) next string → (y : ℕ) → y ≡ subtreeAt s (at + 1 + z) → room ≡ recordsIn old
+      pub sides-given : {mid : List ℕ} {next : ℕ} {string : Bool} → Folds s (at + 1) z old mid (pos + 1) next string → (y : ℕ) → y ≡ subtreeAt s (at + 1 + z)
           → GivenSides s at (at + 1 + z) y mid pos next
-      sides-given {old} {mid} {next} {string} f y ey l =
+      sides-given {mid} {next} {string} f y ey =
           let f′ : Folds s (at + 1) (subtreeAt s (at + 1)) old mid (pos + 1) next string = rw ez at f in
           let w = f′ .by (S .l) (g .depth - 1) (S .left-in) in
           let small = fold-size (S .l) in
           rw (ey, ez) (record {
             head-inside = omega (arith, g .input .inside, some-size (g .input));
-            left = record { tree = foldStringAdditionChain (S .l); spans = w .spans; inside = omega (arith, w .spans .ends, S .left-in .holds .sized, S .sized, g .fits, l, w .frame .room) };
+            left = record { tree = foldStringAdditionChain (S .l); spans = w .spans; inside = omega (arith, w .spans .ends, S .left-in .holds .sized, S .sized, g .fits, w .frame .room) };
             right-given = record {
               tree = S .r;
               depth = g .depth - 1;
               input = S .right-in;
-              fits = omega (arith, l, w .frame .room, w .spans .ends, S .left-in .holds .sized, S .sized, g .fits);
+              same = w .frame .same ∙ g .same;
+              fits = omega (arith, w .frame .room, w .spans .ends, S .left-in .holds .sized, S .sized, g .fits);
             };
             small = omega (arith, w .spans .ends, S .left-in .holds .sized, S .sized, g .input .small);
           })
@@ -158,7 +159,7 @@ module _ {s : List ℕ} {at : ℕ} (size : ℕ) (b : Bool) (p : Tells s at isAdd
       is = λ t depth i. (rw ez at q) .by (sum-at t i .r) (input-node (sum-at t i .right-in)) ∙ sym (sum-string t depth i ∙ rw e);
     }
 
-pub folds-room : {s : List ℕ} {at size pos room : ℕ} {old new : List ℕ} {next : ℕ} {string : Bool} → GivenTree s at size pos room → Folds s at size old new pos next string
+pub folds-room : {s : List ℕ} {at size pos : ℕ} {old new : List ℕ} {next : ℕ} {string : Bool} → GivenTree s at size old pos → Folds s at size old new pos next string
     → recordsIn new ≡ recordsIn old
 folds-room g f = f .by (g .tree) (g .depth) (g .input) .frame .room
 

@@ -15,7 +15,7 @@ use Rattle.rules.specs.Addition.{emptiedUnlessFlagged, isDroppedRight, foldSide
 use Rattle.rules.specs.Proofs.Lists.{by-cond}
 use Rattle.readings.specs.Node.{Tells}
 use Rattle.readings.specs.Input.{Input, input-node}
-use Rattle.output.specs.Records.{MovedRecords, Recorded, before-all, before-less, before-trans}
+use Rattle.output.specs.Records.{Before, MovedRecords, Recorded, before-all, before-less, before-trans}
 use Rattle.output.specs.Trees.{Spans, Wrote, CopiedTree, spans-copied, wrote-both, wrote-over, wrote-as, recorded-node}
 use Rattle.output.specs.Lists.{first-node}
 use Rattle.output.specs.Given.{GivenTree, copied-wrote}
@@ -41,7 +41,7 @@ pub record RightFolded (s : List ℕ) (at size : ℕ) (old new : List ℕ) (pos 
 pub record GivenSides (s : List ℕ) (at right size : ℕ) (out : List ℕ) (pos next : ℕ) : Type 0 where
   pub head-inside : at + 1 ≤ recordsIn s
   pub left : GivenOne out (pos + 1) next
-  pub right-given : GivenTree s right size next (recordsIn out)
+  pub right-given : GivenTree s right size out next
   pub small : next + size < pos + 65536
 
 -- Whatever addition the head is of, and whatever its sides are, its fold was written from record pos to record r.
@@ -87,7 +87,7 @@ module _ {s : List ℕ} {i : ℕ} (a : Bool) (p : Tells s i possibleSymbol a) wh
 
 -- A tree of the input, copied.
 module _ {s : List ℕ} {at size pos : ℕ} {old mid : List ℕ} {e : ℕ} (c : CopiedTree s at size old mid pos e) where
-  pub copied-one : GivenTree s at size pos (recordsIn old) → GivenOne mid pos e
+  pub copied-one : GivenTree s at size old pos → GivenOne mid pos e
   copied-one g = record { tree = g .tree; spans = copied-wrote (g .tree) (g .input) c .spans; inside = omega (arith, g .fits, c .ends, c .frame .room) }
 
   module _ (b : Bool) (p : Tells s at stringFact b) where
@@ -101,25 +101,25 @@ module _ {s : List ℕ} {at size pos : ℕ} {old mid : List ℕ} {e : ℕ} (c : 
     pub right-copied : b ≡ false → RightFolded s at size old mid pos e
     right-copied v = record { by = λ t d i. wrote-as (copied-wrote t i c) (rw (sym (p .by t (input-node i)) ∙ v)) }
 
--- Where they end, and that there is room for as many records as before.
+-- Where they end, and that what stands before them is as it was.
 pub emptied-some : {old new : List ℕ} {at next r : ℕ} → GivenOne old at next → Emptied old new at next r → at < r
 emptied-some g m = omega (arith, m .by (g .tree) (g .spans) .spans .ends)
 
 pub emptied-within : {old new : List ℕ} {at next r : ℕ} → GivenOne old at next → Emptied old new at next r → r ≤ next
 emptied-within g m = omega (arith, m .by (g .tree) (g .spans) .spans .ends, g .spans .ends, emptied-size (g .tree))
 
-pub emptied-room : {old new : List ℕ} {at next r : ℕ} → GivenOne old at next → Emptied old new at next r → recordsIn new ≡ recordsIn old
-emptied-room g m = m .by (g .tree) (g .spans) .frame .room
+pub emptied-frame : {old new : List ℕ} {at next r : ℕ} → GivenOne old at next → Emptied old new at next r → Before old new at
+emptied-frame g m = m .by (g .tree) (g .spans) .frame
 
 pub right-size : (x : Tree) → size (foldedRight x) ≤ size x
 right-size x = by-cond (λ y. size y ≤ size x) (stringFact x) (emptiedUnlessFlagged x) x (λ _. emptied-size x) (λ _. omega arith)
 
-module _ {s : List ℕ} {at size pos room : ℕ} {old new : List ℕ} {r : ℕ} (g : GivenTree s at size pos room) (f : RightFolded s at size old new pos r) where
+module _ {s : List ℕ} {at size pos : ℕ} {old new : List ℕ} {r : ℕ} (g : GivenTree s at size old pos) (f : RightFolded s at size old new pos r) where
   right-ends : r ≡ pos + records (one (foldedRight (g .tree)))
   right-ends = f .by (g .tree) (g .depth) (g .input) .spans .ends
 
-  pub right-room : recordsIn new ≡ recordsIn old
-  right-room = f .by (g .tree) (g .depth) (g .input) .frame .room
+  pub right-frame : Before old new pos
+  right-frame = f .by (g .tree) (g .depth) (g .input) .frame
 
   pub right-after : pos ≤ r
   right-after = omega (arith, right-ends)

@@ -1,6 +1,5 @@
 // `fold_string_addition_chain`, and the rule of an addition that uses it.
 use fields::kind;
-ghost use Rattle.tree.specs.Room.{recordsIn};
 ghost use Rattle.rules.specs.Addition.{isDroppedRight};
 ghost use Rattle.readings.specs.Node.{SomeNode, Tells};
 ghost use Rattle.output.specs.Given.{GivenTree};
@@ -39,7 +38,7 @@ fn is_dropped_right(src: &[u8], at: usize) -> bool
 
 // The right side at record at: "a right side that is a string and unflagged becomes the empty literal".
 fn fold_right(src: &[u8], at: usize, size: usize, out: &mut [u8], pos: usize) -> usize
-    requires { ⌜ GivenTree (now src) at size pos (recordsIn (now out)) ⌝ }
+    requires { ⌜ GivenTree (now src) at size (now out) pos ⌝ }
     ensures { λ r. ⌜ RightFolded (now (src .entry)) at size (now (out .entry)) (now (out .exit)) pos r ⌝ }
 {
     let next = output::copy_tree(src, at, size, out, pos);
@@ -87,7 +86,7 @@ fn fold_string_addition_chain(
     out: &mut [u8],
     pos: usize,
 ) -> Folded
-    requires { ⌜ GivenTree (now src) at size pos (recordsIn (now out)) ⌝ }
+    requires { ⌜ GivenTree (now src) at size (now out) pos ⌝ }
     ensures { λ r. ⌜ Folds (now (src .entry)) at size (now (out .entry)) (now (out .exit)) pos (r .next) (r .string) ⌝ }
 {
     if fields::is_addition(src, at) {
@@ -117,7 +116,7 @@ pub fn remove_unused_addition(
     out: &mut [u8],
     pos: usize,
 ) -> usize
-    requires { ⌜ GivenTree (now src) at size pos (recordsIn (now out)) ⌝ }
+    requires { ⌜ GivenTree (now src) at size (now out) pos ⌝ }
     ensures { λ r. ⌜ RemovesAddition (now (src .entry)) at size (now (out .entry)) (now (out .exit)) pos r ⌝ }
 {
     let folded = fold_string_addition_chain(src, at, size, out, pos);

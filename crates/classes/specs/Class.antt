@@ -1,5 +1,5 @@
 -- An extracted class: its flagged heritage, then what its elements give, made a sequence if there is any.
-use mathlib.Core.Path.{_≡_, ap}
+use mathlib.Core.Path.{_≡_, ap, _∙_}
 use mathlib.Core.List.{List}
 use Prim.Native.Nat.{ℕ, _+_, _-_, _/_, _%_, _<_, _≤_}
 use native.Mathlib.Omega.{arith}
@@ -20,10 +20,10 @@ use Rattle.readings.specs.Heritage.{heritage-split, heritage-first}
 use Rattle.output.specs.Trees.{Wrote, wrote-both, wrote-over, wrote-as}
 use Rattle.output.specs.Given.{GivenList, GivenTree}
 use Rattle.rewrite.specs.Becomes as rewrite
-use Rattle.classes.specs.Extract.{GivenAtMostOne, CopiesFlagged, ExtractsElements, elements-size, first-given, first-wrote, first-room, first-ends}
+use Rattle.classes.specs.Extract.{GivenAtMostOne, CopiesFlagged, ExtractsElements, elements-size, first-given, first-wrote, first-frame, first-ends}
 
-pub record GivenClass (s : List ℕ) (at size pos room : ℕ) : Type 0 where
-  pub given : GivenTree s at size pos room
+pub record GivenClass (s : List ℕ) (at size : ℕ) (out : List ℕ) (pos : ℕ) : Type 0 where
+  pub given : GivenTree s at size out pos
   pub kind-is : headAt s at .kind ≡ kind.class
 
 -- "None: removable. One or more: always a sequence."
@@ -31,33 +31,34 @@ pub record RemovesClass (s : List ℕ) (at size : ℕ) (old new : List ℕ) (pos
   pub by : (t : Tree) (depth : ℕ) → Input s at size depth (one t) → Wrote old new pos r (sequenceIfAny (placeOf t) (extracted t))
 
 module _ {s : List ℕ} {at size : ℕ} (ek : headAt s at .kind ≡ kind.class) (u has : ℕ) (eu : u ≡ headAt s at .sub) (eh : has ≡ u / 2 % 2) where
-  pub class-first : {pos room : ℕ} → GivenTree s at size pos room → GivenFirst s at has
+  pub class-first : {out : List ℕ} {pos : ℕ} → GivenTree s at size out pos → GivenFirst s at has
   class-first g = heritage-first ek u has eu eh (g .tree) (g .input)
 
   module _ (k : ℕ) (ez : k ≡ firstSize s at has) where
     class-split : (t : Tree) {depth : ℕ} → Input s at size depth (one t) → Split s at size depth t (children.heritage (t .head)) k
     class-split t i = heritage-split ek u has eu eh k ez t i
 
-    module _ {pos room : ℕ} (g : GivenTree s at size pos room) where
+    module _ {old : List ℕ} {pos : ℕ} (g : GivenTree s at size old pos) where
       abbrev d : Split s at size (g .depth) (g .tree) (children.heritage (g .tree .head)) k
       d = class-split (g .tree) (g .input)
 
       pub heritage-within : k < size
       heritage-within = omega (arith, d .within, some-size (g .input))
 
-      pub heritage-given : GivenAtMostOne s (at + 1) k (pos + 1) room
-      heritage-given = first-given d (omega arith) (omega (arith, g .fits, heritage-within))
+      pub heritage-given : GivenAtMostOne s (at + 1) k old (pos + 1)
+      heritage-given = first-given d (omega arith) old (g .same) (omega (arith, g .fits, heritage-within))
 
-      module _ {old mid : List ℕ} {next : ℕ} (c : CopiesFlagged s (at + 1) k old mid (pos + 1) next) where
+      module _ {mid : List ℕ} {next : ℕ} (c : CopiesFlagged s (at + 1) k old mid (pos + 1) next) where
         heritage-ends : next ≤ pos + 1 + k
         heritage-ends = first-ends d (omega arith) c
 
-        pub elements-given : room ≡ recordsIn old → GivenList s (at + 1 + k) (size - 1 - k) next (recordsIn mid)
-        elements-given l = record {
+        pub elements-given : GivenList s (at + 1 + k) (size - 1 - k) mid next
+        elements-given = record {
           forest = d .rest;
           depth = g .depth - 1;
           input = d .rest-in;
-          fits = omega (arith, l, first-room d (omega arith) c, g .fits, heritage-ends, heritage-within);
+          same = first-frame d (omega arith) c .same ∙ g .same;
+          fits = omega (arith, first-frame d (omega arith) c .room, g .fits, heritage-ends, heritage-within);
         }
 
         module _ {mid′ : List ℕ} {next′ : ℕ} (x : ExtractsElements s (at + 1 + k) (size - 1 - k) mid mid′ next next′) where
@@ -82,15 +83,16 @@ module _ {s : List ℕ} {at size : ℕ} (ek : headAt s at .kind ≡ kind.class) 
           wrote-both (filter flagged (heritage t)) (concatMap extractedOfElement (elements t)) (first-wrote d (omega arith) c)
           (wrote-as (x .by (d .rest) (depth - 1) (d .rest-in)) (ap (concatMap extractedOfElement) (d .rest-is)))
 
-      pub list-given : {room : ℕ} → GivenTree s at size pos room → room ≡ recordsIn old → rewrite.GivenList s at mid′ pos next′
-      list-given g l =
+      pub list-given : GivenTree s at size old pos → rewrite.GivenList s at mid′ pos next′
+      list-given g =
           let w = extracted-wrote (g .tree) (g .input) in
           let e = elements-ends g c x in
           record {
             node-inside = omega (arith, g .input .inside, some-size (g .input));
+            same = w .frame .same ∙ g .same;
             list = extracted (g .tree);
             spans = w .spans;
-            inside = omega (arith, l, w .frame .room, g .fits);
+            inside = omega (arith, w .frame .room, g .fits);
             small = omega (arith, g .input .small);
           }
 

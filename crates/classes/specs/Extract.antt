@@ -7,6 +7,7 @@ use native.Mathlib.Omega.{arith}
 use lib.ListN.{length, take, drop}
 use Rattle.tree.specs.Tree.{Forest, nil, node, Tree, trees, forest, one, count, records, forest-trees}
 use Rattle.tree.specs.Record.{bit}
+use Rattle.tree.specs.Layout.{versionIn}
 use Rattle.tree.specs.Room.{recordsIn}
 use Rattle.tree.specs.Fields.{headAt, subtreeAt}
 use Rattle.rules.specs.Lists.{keepIf, filter, concatMap}
@@ -18,7 +19,7 @@ use Rattle.readings.specs.Input.{Input, input-node}
 use Rattle.readings.specs.First.{firstSize, GivenFirst}
 use Rattle.readings.specs.Split.{Split, first-some, first-within, first-input, rest-input, some-size}
 use Rattle.readings.specs.Element.{key-split, key-first}
-use Rattle.output.specs.Records.{MovedRecords, before-all}
+use Rattle.output.specs.Records.{Before, MovedRecords, before-all}
 use Rattle.output.specs.Trees.{Wrote, CopiedTree, records-append, wrote-none, wrote-both, wrote-as}
 use Rattle.output.specs.Given.{GivenList, GivenTree, copied-wrote, copied-list}
 
@@ -47,8 +48,8 @@ elements-size [] = omega arith
 elements-size (t ∷ ts) = omega (arith, records-append (extractedOfElement t) (concatMap extractedOfElement ts), element-size t, elements-size ts)
 
 -- One tree at most stands from record `at` on.
-pub record GivenAtMostOne (s : List ℕ) (at size pos room : ℕ) : Type 0 where
-  pub given : GivenList s at size pos room
+pub record GivenAtMostOne (s : List ℕ) (at size : ℕ) (out : List ℕ) (pos : ℕ) : Type 0 where
+  pub given : GivenList s at size out pos
   pub few : count (given .forest) ≤ 1
 
 pub record CopiesFlagged (s : List ℕ) (at size : ℕ) (old new : List ℕ) (pos r : ℕ) : Type 0 where
@@ -63,7 +64,7 @@ pub record ExtractsElements (s : List ℕ) (at size : ℕ) (old new : List ℕ) 
 pub wrote-nothing : (old : List ℕ) (pos : ℕ) → Wrote old old pos pos []
 wrote-nothing old pos = wrote-none (before-all old pos)
 
-pub some-inside : {s : List ℕ} {at size pos room : ℕ} → GivenAtMostOne s at size pos room → (size ≡ 0 → ⊥) → at + 1 ≤ recordsIn s
+pub some-inside : {s : List ℕ} {at size : ℕ} {out : List ℕ} {pos : ℕ} → GivenAtMostOne s at size out pos → (size ≡ 0 → ⊥) → at + 1 ≤ recordsIn s
 some-inside {size = size} g z = let l : 1 ≤ size = omega arith in omega (arith, g .given .input .inside)
 
 -- The one tree, by its flag b.
@@ -107,15 +108,15 @@ module _ {s : List ℕ} {at size depth : ℕ} {t : Tree} {has k : ℕ} (d : Spli
   first-few : count (d .first) ≤ 1
   first-few = omega (arith, counted (d .first), ap length (d .first-is), take-few has (trees (t .kids)))
 
-  pub first-given : {pos room : ℕ} → pos + k ≤ room → GivenAtMostOne s (at + 1) k pos room
-  first-given f = record { given = record { forest = d .first; depth = depth - 1; input = d .first-in; fits = f }; few = first-few }
+  pub first-given : (out : List ℕ) {pos : ℕ} → versionIn out ≡ versionIn s → pos + k ≤ recordsIn out → GivenAtMostOne s (at + 1) k out pos
+  first-given out v f = record { given = record { forest = d .first; depth = depth - 1; input = d .first-in; same = v; fits = f }; few = first-few }
 
   module _ {old new : List ℕ} {pos r : ℕ} (c : CopiesFlagged s (at + 1) k old new pos r) where
     pub first-wrote : Wrote old new pos r (filter flagged (take has (trees (t .kids))))
     first-wrote = wrote-as (c .by (d .first) (depth - 1) (d .first-in) first-few) (ap (filter flagged) (d .first-is))
 
-    pub first-room : recordsIn new ≡ recordsIn old
-    first-room = first-wrote .frame .room
+    pub first-frame : Before old new pos
+    first-frame = first-wrote .frame
 
     pub first-ends : r ≤ pos + k
     first-ends =
@@ -129,25 +130,25 @@ module _ {s : List ℕ} {at size depth : ℕ} {t : Tree} {has k : ℕ} (d : Spli
 
 -- An element, by the records k of its key.
 module _ {s : List ℕ} {at size : ℕ} (u has : ℕ) (eu : u ≡ headAt s at .sub) (eh : has ≡ u / 16 % 2) where
-  pub element-first : {pos room : ℕ} → GivenTree s at size pos room → GivenFirst s at has
+  pub element-first : {out : List ℕ} {pos : ℕ} → GivenTree s at size out pos → GivenFirst s at has
   element-first g = key-first u has eu eh (g .tree) (g .input)
 
   module _ (k : ℕ) (ek : k ≡ firstSize s at has) where
     element-split : (e : Tree) (depth : ℕ) → Input s at size depth (one e) → Split s at size depth e (bit 4 (e .head .sub)) k
     element-split e depth i = key-split u has eu eh k ek e i
 
-    pub key-within : {pos room : ℕ} → GivenTree s at size pos room → k < size
+    pub key-within : {out : List ℕ} {pos : ℕ} → GivenTree s at size out pos → k < size
     key-within g = omega (arith, element-split (g .tree) (g .depth) (g .input) .within, some-size (g .input))
 
-    pub key-given : {pos room : ℕ} → GivenTree s at size pos room → GivenAtMostOne s (at + 1) k pos room
-    key-given g = first-given (element-split (g .tree) (g .depth) (g .input)) (omega arith) (omega (arith, g .fits, key-within g))
+    pub key-given : {out : List ℕ} {pos : ℕ} → GivenTree s at size out pos → GivenAtMostOne s (at + 1) k out pos
+    key-given {out} g = first-given (element-split (g .tree) (g .depth) (g .input)) (omega arith) out (g .same) (omega (arith, g .fits, key-within g))
 
     module _ {old mid : List ℕ} {pos next : ℕ} (c : CopiesFlagged s (at + 1) k old mid pos next) where
-      pub key-ends : {room : ℕ} → GivenTree s at size pos room → next ≤ pos + k
+      pub key-ends : GivenTree s at size old pos → next ≤ pos + k
       key-ends g = first-ends (element-split (g .tree) (g .depth) (g .input)) (omega arith) c
 
-      pub key-room : {room : ℕ} → GivenTree s at size pos room → recordsIn mid ≡ recordsIn old
-      key-room g = first-room (element-split (g .tree) (g .depth) (g .input)) (omega arith) c
+      pub key-frame : GivenTree s at size old pos → Before old mid pos
+      key-frame g = first-frame (element-split (g .tree) (g .depth) (g .input)) (omega arith) c
 
       module _ (b : Bool) (p : Tells s at hasStaticValue b) where
         pub key-then-value : b ≡ true → (v : ℕ) → v ≡ size - 1 - k → {new : List ℕ} → MovedRecords s (at + 1 + k) v mid new next
@@ -171,10 +172,10 @@ module _ {s : List ℕ} {at size : ℕ} (u has : ℕ) (eu : u ≡ headAt s at .s
 pub record Extracting (s : List ℕ) (at size : ℕ) (old : List ℕ) (pos p e : ℕ) (cur : List ℕ) (next : ℕ) : Type 0 where
   pub inside : p ≤ e
   pub same : length cur ≡ length old
-  pub given : GivenList s p (e - p) next (recordsIn cur)
+  pub given : GivenList s p (e - p) cur next
   pub whole : (new : List ℕ) (r : ℕ) → ExtractsElements s p (e - p) cur new next r → ExtractsElements s at size old new pos r
 
-pub extract-start : {s : List ℕ} {at size : ℕ} {old : List ℕ} {pos : ℕ} → GivenList s at size pos (recordsIn old) → Extracting s at size old pos at (at + size) old pos
+pub extract-start : {s : List ℕ} {at size : ℕ} {old : List ℕ} {pos : ℕ} → GivenList s at size old pos → Extracting s at size old pos at (at + size) old pos
 extract-start {s} {at} {size} g =
     let e : at + size - at ≡ size = omega arith in
     record { inside = omega arith; same = refl; given = rw e g; whole = λ new r x. rw e at x }
@@ -206,15 +207,16 @@ module _ {s : List ℕ} {at size : ℕ} {old : List ℕ} {pos p e : ℕ} {cur : 
         go (node h cs rest) i = omega (arith, first-within i)
 
     module _ (z : ℕ) (ez : z ≡ subtreeAt s p) where
-      pub element-given : GivenTree s p z next (recordsIn cur)
+      pub element-given : GivenTree s p z cur next
       element-given = rw ez (go (w .given .forest) (w .given .input))
         where
-          go : (f : Forest) → Input s p (e - p) (w .given .depth) f → GivenTree s p (subtreeAt s p) next (recordsIn cur)
+          go : (f : Forest) → Input s p (e - p) (w .given .depth) f → GivenTree s p (subtreeAt s p) cur next
           go nil i = absurd (omega (arith, i .holds .sized))
           go (node h cs rest) i = record {
             tree = record { head = h; kids = cs };
             depth = w .given .depth;
             input = first-input i;
+            same = w .given .same;
             fits = omega (arith, w .given .fits, subtree-within);
           }
 
@@ -222,10 +224,10 @@ module _ {s : List ℕ} {at size : ℕ} {old : List ℕ} {pos p e : ℕ} {cur : 
         this : ExtractsElement s p (subtreeAt s p) cur cur′ next next′
         this = rw ez at a
 
-        rest-given : GivenList s (p + subtreeAt s p) (e - p - subtreeAt s p) next′ (recordsIn cur′)
+        rest-given : GivenList s (p + subtreeAt s p) (e - p - subtreeAt s p) cur′ next′
         rest-given = go (w .given .forest) (w .given .input)
           where
-            go : (f : Forest) → Input s p (e - p) (w .given .depth) f → GivenList s (p + subtreeAt s p) (e - p - subtreeAt s p) next′ (recordsIn cur′)
+            go : (f : Forest) → Input s p (e - p) (w .given .depth) f → GivenList s (p + subtreeAt s p) (e - p - subtreeAt s p) cur′ next′
             go nil i = absurd (omega (arith, i .holds .sized))
             go (node h cs rest) i =
                 let t : Tree = record { head = h; kids = cs } in
@@ -234,6 +236,7 @@ module _ {s : List ℕ} {at size : ℕ} {old : List ℕ} {pos p e : ℕ} {cur : 
                   forest = rest;
                   depth = w .given .depth;
                   input = rest-input i;
+                  same = x .frame .same ∙ w .given .same;
                   fits = omega (arith, w .given .fits, subtree-within, x .spans .ends, x .frame .room, element-size t, i .holds .stands .2);
                 }
 

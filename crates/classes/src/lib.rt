@@ -1,12 +1,11 @@
 // `remove_unused_class`: what a class gives up where it is not kept.
-ghost use Rattle.tree.specs.Room.{recordsIn};
 ghost use Rattle.output.specs.Given.{GivenList, GivenTree};
 ghost use Rattle.classes.specs.Extract.{GivenAtMostOne, CopiesFlagged, ExtractsElement, ExtractsElements};
 ghost use Rattle.classes.specs.Class.{GivenClass, RemovesClass};
 
 // "a flagged heritage", "a flagged computed key": the tree at record at, of size records, or none.
 fn copy_if_flagged(src: &[u8], at: usize, size: usize, out: &mut [u8], pos: usize) -> usize
-    requires { ⌜ GivenAtMostOne (now src) at size pos (recordsIn (now out)) ⌝ }
+    requires { ⌜ GivenAtMostOne (now src) at size (now out) pos ⌝ }
     ensures { λ r. ⌜ CopiesFlagged (now (src .entry)) at size (now (out .entry)) (now (out .exit)) pos r ⌝ }
 {
     if size == 0 {
@@ -20,7 +19,7 @@ fn copy_if_flagged(src: &[u8], at: usize, size: usize, out: &mut [u8], pos: usiz
 
 // "per element a flagged computed key, then any static value, none of them reduced"
 fn extract_element(src: &[u8], at: usize, size: usize, out: &mut [u8], pos: usize) -> usize
-    requires { ⌜ GivenTree (now src) at size pos (recordsIn (now out)) ⌝ }
+    requires { ⌜ GivenTree (now src) at size (now out) pos ⌝ }
     ensures { λ r. ⌜ ExtractsElement (now (src .entry)) at size (now (out .entry)) (now (out .exit)) pos r ⌝ }
 {
     let key = readings::first_size(src, at, fields::sub_at(src, at) / 16 % 2);
@@ -35,7 +34,7 @@ fn extract_element(src: &[u8], at: usize, size: usize, out: &mut [u8], pos: usiz
 
 // The elements from record at on, in size records.
 fn extract_elements(src: &[u8], at: usize, size: usize, out: &mut [u8], pos: usize) -> usize
-    requires { ⌜ GivenList (now src) at size pos (recordsIn (now out)) ⌝ }
+    requires { ⌜ GivenList (now src) at size (now out) pos ⌝ }
     ensures { λ r. ⌜ ExtractsElements (now (src .entry)) at size (now (out .entry)) (now (out .exit)) pos r ⌝ }
 {
     let end = at + size;
@@ -51,7 +50,7 @@ fn extract_elements(src: &[u8], at: usize, size: usize, out: &mut [u8], pos: usi
 
 // "None: removable. One or more: always a sequence."
 pub fn remove_unused_class(src: &[u8], at: usize, size: usize, out: &mut [u8], pos: usize) -> usize
-    requires { ⌜ GivenClass (now src) at size pos (recordsIn (now out)) ⌝ }
+    requires { ⌜ GivenClass (now src) at size (now out) pos ⌝ }
     ensures { λ r. ⌜ RemovesClass (now (src .entry)) at size (now (out .entry)) (now (out .exit)) pos r ⌝ }
 {
     let base = readings::first_size(src, at, fields::sub_at(src, at) / 2 % 2);

@@ -14,3 +14,5 @@ pub const SUBTREE: usize = 6;
 pub const TEXT: usize = 8;
 
 pub const PLACE: usize = 12;
+
+pub const END: usize = 16;

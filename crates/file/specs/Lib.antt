@@ -6,3 +6,4 @@ pub mod Parents
 pub mod Run
 pub mod Steps
 pub mod Symbols
+pub mod Ends

@@ -6,10 +6,10 @@ use Prim.Native.Nat.{ℕ, _<_, _≤_}
 use native.Mathlib.Omega.{arith}
 use Rattle.tree.specs.Tree.{one, levels, depth}
 use Rattle.tree.specs.Below.{allBelow}
-use Rattle.tree.specs.Record.{recordOk, taken}
+use Rattle.tree.specs.Record.{recordOk, taken, endOk}
 use Rattle.tree.specs.Room.{recordsIn}
 use Rattle.tree.specs.Fields.{settingsOf, countOf, headAt}
-use Rattle.tree.specs.Refusal.{Limits, markOk, versionOk, settingsOk, countOk, recordsOk, allTaken, shapeOk, treeOf, additionsOk, depthOk, refusal}
+use Rattle.tree.specs.Refusal.{Limits, markOk, versionOk, settingsOk, countOk, recordsOk, allTaken, shapeOk, treeOf, additionsOk, endsOk, depthOk, refusal}
 use Rattle.tree.specs.Stands.{formed-one}
 use Rattle.tree.specs.Accepted.{Counted, counted-parts, counted-room, Rooted, rooted}
 use Rattle.file.specs.Answer.{refusedBy, acceptedWith, statedOf, checked}
@@ -103,18 +103,29 @@ module _ {limits : Limits} {s : List ℕ} {n : ℕ} (h : Headed limits s n) wher
         pub held : Held s 0 n
         held = record { forest = one (treeOf s); holds = holds; inside = omega (arith, headed-inside) }
 
-        module _ (additions : additionsOk s ≡ true) (r : Bool) (low : Low s 0 n (limits .depth) r) where
-          depth-is : depthOk (limits .depth) s ≡ r
-          unfolding depthOk
-          depth-is =
-              let e : depth (treeOf s) ≡ levels (one (treeOf s)) = omega arith in
-              rw e (sym (low .by (one (treeOf s)) holds))
+        module _ (additions : additionsOk s ≡ true) where
+          pub refused-17 : allBelow (λ i. endOk (headAt s i .place)) n ≡ false → refusedBy 17 ≡ checked limits s
+          unfolding refusal endsOk
+          refused-17 e = stated-as limits s 17 (rw (h .mark, h .version, h .settings, h .counted, recorded-all, taken-all, shape, additions, ← h .isN, e))
 
-          pub refused-8 : r ≡ false → refusedBy 8 ≡ checked limits s
-          unfolding refusal
-          refused-8 e = stated-as limits s 8 (rw (h .mark, h .version, h .settings, h .counted, recorded-all, taken-all, shape, additions, depth-is, e))
+          module _ (ends : allBelow (λ i. endOk (headAt s i .place)) n ≡ true) (r : Bool) (low : Low s 0 n (limits .depth) r) where
+            ends-all : endsOk s ≡ true
+            unfolding endsOk
+            ends-all = rw (← h .isN) ends
 
-          pub accepted-as : r ≡ true → acceptedWith (settingsOf s) n ≡ checked limits s
-          unfolding refusal
-          accepted-as e =
-              rw (h .isN) (stated-as limits s 0 (rw (h .mark, h .version, h .settings, h .counted, recorded-all, taken-all, shape, additions, depth-is, e)))
+            depth-is : depthOk (limits .depth) s ≡ r
+            unfolding depthOk
+            depth-is =
+                let e : depth (treeOf s) ≡ levels (one (treeOf s)) = omega arith in
+                rw e (sym (low .by (one (treeOf s)) holds))
+
+            pub refused-8 : r ≡ false → refusedBy 8 ≡ checked limits s
+            unfolding refusal
+            refused-8 e =
+                stated-as limits s 8 (rw (h .mark, h .version, h .settings, h .counted, recorded-all, taken-all, shape, additions, ends-all, depth-is, e))
+
+            pub accepted-as : r ≡ true → acceptedWith (settingsOf s) n ≡ checked limits s
+            unfolding refusal
+            accepted-as e =
+                rw (h .isN)
+                (stated-as limits s 0 (rw (h .mark, h .version, h .settings, h .counted, recorded-all, taken-all, shape, additions, ends-all, depth-is, e)))

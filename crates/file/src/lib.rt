@@ -1,12 +1,15 @@
-// The check of a tree file: refusals 1 to 8, in order, and 5 again after 7.
+// The check of a tree file: refusals 1 to 8, in order, with 5 again and 17 after 7.
 mod children;
 mod depth;
+mod ends;
 mod record;
 mod symbols;
 
 ghost use mathlib.Core.Path.{_≡_};
-ghost use Prim.Native.Nat.{_<_};
-ghost use Rattle.tree.specs.Refusal.{markOk, countOk};
+ghost use Prim.Native.Nat.{_<_, _≤_};
+ghost use lib.ListN.{length};
+ghost use Rattle.tree.specs.Layout.{headerBytes};
+ghost use Rattle.tree.specs.Refusal.{markOk, versionOk, countOk};
 ghost use Rattle.tree.specs.Fields.{countOf};
 ghost use Rattle.file.specs.Answer.{limitsOf, stated, checked};
 
@@ -45,8 +48,19 @@ fn mark_ok(src: &[u8]) -> bool
     src[2] == b'T'
 }
 
+fn version_ok(src: &[u8]) -> bool
+    requires { ⌜ headerBytes ≤ length (now src) ⌝ }
+    ensures { λ r. ⌜ r ≡ versionOk (now (src .entry)) ⌝ }
+{
+    let version = le::get16(src, 3);
+    if version == 1 {
+        return true;
+    }
+    version == 2
+}
+
 fn count_ok(src: &[u8], n: usize, most: usize) -> bool
-    requires { ⌜ (n ≡ countOf (now src)) × (n < 65536) ⌝ }
+    requires { ⌜ (n ≡ countOf (now src)) × (n < 65536) × (headerBytes ≤ length (now src)) ⌝ }
     ensures { λ r. ⌜ r ≡ countOk most (now (src .entry)) ⌝ }
 {
     if n == 0 {
@@ -65,7 +79,7 @@ pub fn check(src: &[u8], records: usize, depth: usize, logicals: bool) -> Checke
     if !mark_ok(src) {
         return Checked::Refused(1);
     }
-    if le::get16(src, 3) != 1 {
+    if !version_ok(src) {
         return Checked::Refused(2);
     }
     let settings = src[5];
@@ -87,6 +101,9 @@ pub fn check(src: &[u8], records: usize, depth: usize, logicals: bool) -> Checke
     }
     if !symbols::additions_ok(src, n) {
         return Checked::Refused(5);
+    }
+    if !ends::ends_ok(src, n) {
+        return Checked::Refused(17);
     }
     if !depth::levels_ok(src, 0, n, depth) {
         return Checked::Refused(8);

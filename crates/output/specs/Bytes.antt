@@ -11,8 +11,8 @@ use Rattle.le.specs.Le.{u16At, u32At, set16, set32}
 use Rattle.le.specs.Laws.{u16-same, u32-same, u16-set16, u32-set32, getD-set16-other, getD-set32-other, length-set16}
 use Rattle.tree.specs.Tree.{Place}
 use Rattle.tree.specs.Offset as offset
-use Rattle.tree.specs.Layout.{start}
-use Rattle.tree.specs.Fields.{placeFrom, headAt}
+use Rattle.tree.specs.Layout.{Version, v1, v2, versionBy, versionIn, width, start}
+use Rattle.tree.specs.Fields.{placeIn, placeFrom, headAt}
 
 -- The first n bytes are as they were.
 pub record Agree (old new : List ℕ) (n : ℕ) : Type 0 where
@@ -39,14 +39,14 @@ pub record Patched (old new : List ℕ) (n z : ℕ) : Type 0 where
   pub below : Agree old new offset.children
   pub above : Kept old new offset.text
 
--- The place of the record at the front was set, and all else is as it was.
-pub record Placed (old new : List ℕ) (place : Place) : Type 0 where
-  pub place-is : placeFrom new offset.place ≡ place
+-- The place of the record at the front, one of a version, was set, and all else is as it was.
+pub record Placed (v : Version) (old new : List ℕ) (place : Place) : Type 0 where
+  pub place-is : placeFrom v new 0 ≡ placeIn v place
   pub below : Agree old new offset.place
-  pub above : Kept old new offset.behind
+  pub above : Kept old new (width v)
 
--- The record at the front was made anew, and all else is as it was.
-pub record Made (old new : List ℕ) (kind sub facts : ℕ) (place : Place) (n z : ℕ) : Type 0 where
+-- The record at the front, one of a version, was made anew, and all else is as it was.
+pub record Made (v : Version) (old new : List ℕ) (kind sub facts : ℕ) (place : Place) (n z : ℕ) : Type 0 where
   pub kind-is : getD new offset.kind 0 ≡ kind
   pub facts-is : getD new offset.facts 0 ≡ facts
   pub sub-is : getD new offset.sub 0 ≡ sub
@@ -54,8 +54,8 @@ pub record Made (old new : List ℕ) (kind sub facts : ℕ) (place : Place) (n z
   pub children : u16At new offset.children ≡ n
   pub subtree : u16At new offset.subtree ≡ z
   pub text-is : u32At new offset.text ≡ 0
-  pub place-is : placeFrom new offset.place ≡ place
-  pub above : Kept old new offset.behind
+  pub place-is : placeFrom v new 0 ≡ placeIn v place
+  pub above : Kept old new (width v)
 
 pub agree-all : (s : List ℕ) (n : ℕ) → Agree s s n
 agree-all s n = record { same = λ k l. refl }
@@ -87,21 +87,28 @@ module _ {s s′ : List ℕ} {p q n : ℕ} (c : Copied s p s′ q n) where
   pub copied-u32 : (i j k : ℕ) → i ≡ q + k → j ≡ p + k → k + 4 ≤ n → u32At s′ i ≡ u32At s j
   copied-u32 i j k a b h = u32-same s s′ j i (copied-u16 i j k a b (omega arith)) (copied-u16 (i + 2) (j + 2) (k + 2) (omega arith) (omega arith) (omega arith))
 
--- A place is copied with its bytes.
-pub place-copied : {s s′ : List ℕ} {p q n : ℕ} → Copied s p s′ q n → (i j k : ℕ) → i ≡ q + k → j ≡ p + k → k + 4 ≤ n → placeFrom s′ i ≡ placeFrom s j
-place-copied c i j k a b h = let e = copied-u32 c i j k a b h in λ x. record { start = e x }
+-- A place is copied with the record that starts at byte p, or with its bytes from the text on.
+pub place-copied : (v : Version) {s s′ : List ℕ} (p q : ℕ) → Copied s (p + offset.text) s′ (q + offset.text) (width v - offset.text) → placeFrom v s′ q ≡ placeFrom v s p
+unfolding width placeIn
+place-copied v1 p q c =
+    let e = copied-u32 c (q + offset.place) (p + offset.place) (offset.place - offset.text) (omega arith) (omega arith) (omega arith) in
+    λ x. record { start = e x; end = e x }
+place-copied v2 p q c =
+    let e = copied-u32 c (q + offset.place) (p + offset.place) (offset.place - offset.text) (omega arith) (omega arith) (omega arith) in
+    let f = copied-u32 c (q + offset.end) (p + offset.end) (offset.end - offset.text) (omega arith) (omega arith) (omega arith) in
+    λ x. record { start = e x; end = f x }
 
 -- The head of a record, of which the counts need not be copied.
-pub head-same : {s s′ : List ℕ} (i j : ℕ) → Copied s (start i) s′ (start j) offset.children
-    → Copied s (start i + offset.text) s′ (start j + offset.text) (offset.behind - offset.text) → headAt s′ j ≡ headAt s i
-head-same {s} {s′} i j a b =
+pub head-same : (v : Version) {s s′ : List ℕ} (i j : ℕ) → versionIn s ≡ v → versionIn s′ ≡ v → offset.end ≤ width v → Copied s (start v i) s′ (start v j) offset.children
+    → Copied s (start v i + offset.text) s′ (start v j + offset.text) (width v - offset.text) → headAt s′ j ≡ headAt s i
+head-same v {s} {s′} i j e e′ w a b =
     let k = a .same offset.kind (omega arith) in
     let f = a .same offset.facts (omega arith) in
     let u = a .same offset.sub (omega arith) in
     let r = a .same offset.reserved (omega arith) in
-    let t = copied-u32 b (start j + offset.text) (start i + offset.text) 0 (omega arith) (omega arith) (omega arith) in
-    let p = place-copied b (start j + offset.place) (start i + offset.place) (offset.place - offset.text) (omega arith) (omega arith) (omega arith) in
-    λ x. record { kind = k x; facts = f x; sub = u x; reserved = r x; text = t x; place = p x }
+    let t = copied-u32 b (start v j + offset.text) (start v i + offset.text) 0 (omega arith) (omega arith) (omega arith) in
+    let p = place-copied v (start v i) (start v j) b in
+    rw (e, e′) (λ x. record { kind = k x; facts = f x; sub = u x; reserved = r x; text = t x; place = p x })
 
 -- The copy, a byte at a time.
 pub moved-none : (s : List ℕ) (p : ℕ) (old : List ℕ) (q : ℕ) → Moved s p 0 old old q
@@ -152,7 +159,7 @@ shifting-more {old} {new} {to} {q} {w} m h =
       ahead = omega arith;
     }
 
-pub patched : {old new : List ℕ} {n z : ℕ} → new ≡ set16 (set16 old offset.children n) offset.subtree z → offset.behind ≤ length old → Patched old new n z
+pub patched : {old new : List ℕ} {n z : ℕ} → new ≡ set16 (set16 old offset.children n) offset.subtree z → offset.end ≤ length old → Patched old new n z
 patched {old} {new} {n} {z} e h =
     let o : (k : ℕ) → k ≢ 4 → k ≢ 5 → k ≢ 6 → k ≢ 7 → getD new k 0 ≡ getD old k 0 = λ k a b c d. rw (e, getD-set16-other (set16 old 4 n) 6 z k c d, getD-set16-other old 4 n k a b) in
     record {
@@ -165,21 +172,37 @@ patched {old} {new} {n} {z} e h =
       above = record { same = λ k l. o k (omega arith) (omega arith) (omega arith) (omega arith) };
     }
 
-pub placed : {old new : List ℕ} (place : Place) → new ≡ set32 old offset.place (place .start) → offset.behind ≤ length old → Placed old new place
-placed {old} {new} place e h =
-    let v = place .start in
-    let p : u32At new offset.place ≡ v = rw e (u32-set32 old offset.place v (omega arith)) in
+-- The start, and behind it the end where the version has one.
+pub placed-start : {old new : List ℕ} (place : Place) → new ≡ set32 old offset.place (place .start) → width v1 ≤ length old → Placed v1 old new place
+unfolding width placeIn
+placed-start {old} {new} place e h =
+    let p : u32At new offset.place ≡ place .start = rw e (u32-set32 old offset.place (place .start) (omega arith)) in
     record {
-      place-is = λ x. record { start = p x };
-      below = record { same = λ k l. rw e (getD-set32-other old offset.place v k (inl l)) };
-      above = record { same = λ k l. rw e (getD-set32-other old offset.place v k (inr l)) };
+      place-is = λ x. record { start = p x; end = p x };
+      below = record { same = λ k l. rw e (getD-set32-other old offset.place (place .start) k (inl l)) };
+      above = record { same = λ k l. rw e (getD-set32-other old offset.place (place .start) k (inr l)) };
+    }
+
+pub placed-both : {old mid new : List ℕ} (place : Place) → mid ≡ set32 old offset.place (place .start) → new ≡ set32 mid offset.end (place .end) → length mid ≡ length old → width v2 ≤ length old
+    → Placed v2 old new place
+unfolding width placeIn
+placed-both {old} {mid} {new} place e f lm h =
+    let kept : (k : ℕ) → (k < offset.end) ⊎ (20 ≤ k) → getD new k 0 ≡ getD mid k 0 = λ k o. rw f (getD-set32-other mid offset.end (place .end) k o) in
+    let p : u32At new offset.place ≡ place .start =
+    u32-same mid new offset.place offset.place (u16-same mid new 12 12 (kept 12 (inl (omega arith))) (kept 13 (inl (omega arith)))) (u16-same mid new 14 14 (kept 14 (inl (omega arith))) (kept 15 (inl (omega arith))))
+    ∙ rw e (u32-set32 old offset.place (place .start) (omega arith)) in
+    let q : u32At new offset.end ≡ place .end = rw f (u32-set32 mid offset.end (place .end) (omega arith)) in
+    record {
+      place-is = λ x. record { start = p x; end = q x };
+      below = record { same = λ k l. kept k (inl (omega arith)) ∙ rw e (getD-set32-other old offset.place (place .start) k (inl l)) };
+      above = record { same = λ k l. kept k (inr l) ∙ rw e (getD-set32-other old offset.place (place .start) k (inr (omega arith))) };
     }
 
 -- A record made anew, a field at a time.
-pub made-of : {old a b c d new : List ℕ} {kind sub facts : ℕ} {place : Place} {n z : ℕ}
+pub made-of : (v : Version) {old a b c d new : List ℕ} {kind sub facts : ℕ} {place : Place} {n z : ℕ} → offset.end ≤ width v
     → a ≡ set (set (set (set old offset.kind kind) offset.facts facts) offset.sub sub) offset.reserved 0 → b ≡ set16 a offset.children n
-    → c ≡ set16 b offset.subtree z → d ≡ set32 c offset.text 0 → Placed d new place → offset.behind ≤ length old → Made old new kind sub facts place n z
-made-of {old} {a} {b} {c} {d} {new} {kind} {sub} {facts} {place} {n} {z} ea eb ec ed en h =
+    → c ≡ set16 b offset.subtree z → d ≡ set32 c offset.text 0 → Placed v d new place → width v ≤ length old → Made v old new kind sub facts place n z
+made-of v {old} {a} {b} {c} {d} {new} {kind} {sub} {facts} {place} {n} {z} w ea eb ec ed en h =
     let la : length a ≡ length old = rw ea (simp length-set) in
     let lb : length b ≡ length a = rw eb (length-set16 a 4 n) in
     let lc : length c ≡ length b = rw ec (length-set16 b 6 z) in

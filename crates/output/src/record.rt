@@ -1,12 +1,14 @@
 // Records copied, moved, kept and made.
 use fields::Place;
 use fields::offset;
+ghost use mathlib.Core.Path.{_≡_};
 ghost use Prim.Native.Nat.{_+_, _<_, _≤_};
 ghost use lib.ListN.{length};
-ghost use Rattle.tree.specs.Offset.{behind};
+ghost use Rattle.tree.specs.Offset as offset;
+ghost use Rattle.tree.specs.Layout.{versionBy, versionIn, width};
 ghost use Rattle.tree.specs.Room.{recordsIn};
 ghost use Rattle.tree.specs.Fields.{headAt};
-ghost use Rattle.fields.specs.Place.{asPlace};
+ghost use Rattle.fields.specs.Place.{asPlace, saidIn};
 ghost use Rattle.rules.specs.Made.{madeHead};
 ghost use Rattle.output.specs.Bytes.{Moved, Patched, Placed, Made};
 ghost use Rattle.output.specs.Records.{MovedRecords, Recorded};
@@ -24,9 +26,9 @@ pub fn copy_bytes(src: &[u8], p: usize, n: usize, out: &mut [u8], q: usize)
     }
 }
 
-// Copies n records of src from record at on to out from record pos on.
+// Copies n records of src from record at on to out, whose records are as wide, from record pos on.
 pub fn copy_records(src: &[u8], at: usize, n: usize, out: &mut [u8], pos: usize)
-    requires { ⌜ (at + n ≤ recordsIn (now src)) × (pos + n ≤ recordsIn (now out)) ⌝ }
+    requires { ⌜ (at + n ≤ recordsIn (now src)) × (pos + n ≤ recordsIn (now out)) × (versionIn (now out) ≡ versionIn (now src)) ⌝ }
     ensures { λ _. ⌜ MovedRecords (now (src .entry)) at n (now (out .entry)) (now (out .exit)) pos ⌝ }
 {
     if n == 0 {
@@ -40,7 +42,7 @@ pub fn copy_records(src: &[u8], at: usize, n: usize, out: &mut [u8], pos: usize)
 
 // Copies the tree at record at, of size records, to out from record pos on. Returns where it ends.
 pub fn copy_tree(src: &[u8], at: usize, size: usize, out: &mut [u8], pos: usize) -> usize
-    requires { ⌜ (at + size ≤ recordsIn (now src)) × (pos + size ≤ recordsIn (now out)) ⌝ }
+    requires { ⌜ (at + size ≤ recordsIn (now src)) × (pos + size ≤ recordsIn (now out)) × (versionIn (now out) ≡ versionIn (now src)) ⌝ }
     ensures { λ r. ⌜ CopiedTree (now (src .entry)) at size (now (out .entry)) (now (out .exit)) pos r ⌝ }
 {
     copy_records(src, at, size, out, pos);
@@ -64,7 +66,7 @@ pub fn move_down(out: &mut [u8], pos: usize, n: usize)
 
 // The record that part starts with has n children and takes z records.
 fn patch(part: &mut [u8], n: usize, z: usize)
-    requires { ⌜ (behind ≤ length (now part)) × (n < 65536) × (z < 65536) ⌝ }
+    requires { ⌜ (offset.end ≤ length (now part)) × (n < 65536) × (z < 65536) ⌝ }
     ensures { λ _. ⌜ Patched (now (part .entry)) (now (part .exit)) n z ⌝ }
 {
     le::put16(part, offset::CHILDREN, n);
@@ -73,7 +75,7 @@ fn patch(part: &mut [u8], n: usize, z: usize)
 
 // Record pos of out becomes record at of src, but with n children and z records: the part that starts there is lent.
 pub fn keep_at(src: &[u8], at: usize, out: &mut [u8], pos: usize, n: usize, z: usize)
-    requires { ⌜ (at + 1 ≤ recordsIn (now src)) × (pos + 1 ≤ recordsIn (now out)) × (n < 65536) × (z < 65536) ⌝ }
+    requires { ⌜ (at + 1 ≤ recordsIn (now src)) × (pos + 1 ≤ recordsIn (now out)) × (versionIn (now out) ≡ versionIn (now src)) × (n < 65536) × (z < 65536) ⌝ }
     ensures { λ _. ⌜ Recorded (now (out .entry)) (now (out .exit)) pos (headAt (now (src .entry)) at) n z ⌝ }
 {
     copy_records(src, at, 1, out, pos);
@@ -81,18 +83,21 @@ pub fn keep_at(src: &[u8], at: usize, out: &mut [u8], pos: usize, n: usize, z: u
     patch(&mut out[p..], n, z);
 }
 
-// The record that part starts with stands at this place.
-fn put_place(part: &mut [u8], place: Place)
-    requires { ⌜ behind ≤ length (now part) ⌝ }
-    ensures { λ _. ⌜ Placed (now (part .entry)) (now (part .exit)) (asPlace place) ⌝ }
+// The record that part starts with stands at this place; `ends` says whether it has an end.
+fn put_place(part: &mut [u8], ends: bool, place: Place)
+    requires { ⌜ width (versionBy ends) ≤ length (now part) ⌝ }
+    ensures { λ _. ⌜ Placed (versionBy ends) (now (part .entry)) (now (part .exit)) (asPlace place) ⌝ }
 {
     le::put32(part, offset::PLACE, place.start as usize);
+    if ends {
+        le::put32(part, offset::END, place.end as usize);
+    }
 }
 
 // The record that part starts with is made anew.
-fn make(part: &mut [u8], kind: u8, sub: u8, facts: u8, place: Place, n: usize, z: usize)
-    requires { ⌜ (behind ≤ length (now part)) × (n < 65536) × (z < 65536) ⌝ }
-    ensures { λ _. ⌜ Made (now (part .entry)) (now (part .exit)) kind sub facts (asPlace place) n z ⌝ }
+fn make(part: &mut [u8], ends: bool, kind: u8, sub: u8, facts: u8, place: Place, n: usize, z: usize)
+    requires { ⌜ (width (versionBy ends) ≤ length (now part)) × (n < 65536) × (z < 65536) ⌝ }
+    ensures { λ _. ⌜ Made (versionBy ends) (now (part .entry)) (now (part .exit)) kind sub facts (asPlace place) n z ⌝ }
 {
     part[offset::KIND] = kind;
     part[offset::FACTS] = facts;
@@ -101,10 +106,10 @@ fn make(part: &mut [u8], kind: u8, sub: u8, facts: u8, place: Place, n: usize, z
     le::put16(part, offset::CHILDREN, n);
     le::put16(part, offset::SUBTREE, z);
     le::put32(part, offset::TEXT, 0);
-    put_place(part, place);
+    put_place(part, ends, place);
 }
 
-// Record pos of out is made: "text 0, symbol and string unknown".
+// Record pos of out is made: "text 0, symbol and string unknown", at a place as the records of out say it.
 pub fn make_at(
     out: &mut [u8],
     pos: usize,
@@ -116,8 +121,9 @@ pub fn make_at(
     z: usize,
 )
     requires { ⌜ (pos + 1 ≤ recordsIn (now out)) × (n < 65536) × (z < 65536) ⌝ }
-    ensures { λ _. ⌜ Recorded (now (out .entry)) (now (out .exit)) pos (madeHead kind sub facts (asPlace place)) n z ⌝ }
+    ensures { λ _. ⌜ Recorded (now (out .entry)) (now (out .exit)) pos (madeHead kind sub facts (saidIn (now (out .entry)) place)) n z ⌝ }
 {
     let p = fields::start_of(out, pos);
-    make(&mut out[p..], kind, sub, facts, place, n, z);
+    let ends = fields::has_ends(out);
+    make(&mut out[p..], ends, kind, sub, facts, place, n, z);
 }

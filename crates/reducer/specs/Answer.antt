@@ -8,7 +8,7 @@ use lib.Dec.{ltb}
 use lib.ListN.{length, getD, drop, length-append}
 use Rattle.stated.specs.Stated.{Stated, injective-by}
 use Rattle.tree.specs.Tree.{Tree, forest, records, levels, depth}
-use Rattle.tree.specs.Layout.{width, span, start}
+use Rattle.tree.specs.Layout.{Version, v1, v2, versionIn, width, span, start}
 use Rattle.tree.specs.Fields.{settingsOf, countOf}
 use Rattle.tree.specs.File.{fileBytes}
 use Rattle.tree.specs.Refusal.{reduceLimits, listEffectsLimits, refusal, treeOf}
@@ -34,9 +34,10 @@ stated (Refused n) = refusedBy n
 stated Removable = answered Case.removable 0
 stated (Kept n) = answered Case.kept n
 
--- "9 output under 8 + 16 × (2 × N − 1) bytes": the length of a file of 2 × N − 1 records
-abbrev pub leastOutput : ℕ → ℕ
-leastOutput n = start (2 * n - 1)
+-- "9 output under 8 + 16 × (2 × N − 1) bytes": the length of a file of 2 × N − 1 records; 02, N6: "Each length formula uses 20 for 16 in
+-- version 2."
+abbrev pub leastOutput : Version → ℕ → ℕ
+leastOutput v n = start v (2 * n - 1)
 
 -- The refusals of the file, then 9.
 abbrev pub numberBy : ℕ → Bool → ℕ
@@ -44,19 +45,19 @@ numberBy zero short = cond short 9 0
 numberBy (suc k) short = suc k
 
 unfoldable pub number : List ℕ → ℕ → ℕ
-number s room = numberBy (refusal reduceLimits s) (ltb room (leastOutput (countOf s)))
+number s room = numberBy (refusal reduceLimits s) (ltb room (leastOutput (versionIn s) (countOf s)))
 
 -- What is left of the file's tree under the file's settings.
 unfoldable pub left : List ℕ → List Tree
 left s = reduce (settingsWith (settingsOf s)) (treeOf s)
 
--- "Removable: length 0", "Kept: length; .. header settings copied"
-abbrev pub fileOf : ℕ → List Tree → List ℕ
-fileOf settings [] = []
-fileOf settings (t ∷ ts) = fileBytes settings t
+-- "Removable: length 0", "Kept: length; .. header settings copied"; 02, N6: "Version 1 is still read and answers version 1."
+abbrev pub fileOf : Version → ℕ → List Tree → List ℕ
+fileOf v settings [] = []
+fileOf v settings (t ∷ ts) = fileBytes v settings t
 
 unfoldable pub rewritten : List ℕ → List ℕ
-rewritten s = fileOf (settingsOf s) (left s)
+rewritten s = fileOf (versionIn s) (settingsOf s) (left s)
 
 -- "removable, or one rewritten tree with its length": that there is at most one is promised below.
 abbrev pub caseOf : List Tree → Case
@@ -84,10 +85,11 @@ answerListGiven places s = listOf places (left s) (rewritten s)
 abbrev pub answerList : List ℕ → List ℕ
 answerList s = answerListGiven [] s
 
--- A kept file: List effects accepts it, and it holds the tree that is left, under the same settings.
+-- A kept file: List effects accepts it, and it holds the tree that is left, in the same version and under the same settings.
 pub record KeptFile (s : List ℕ) (t : Tree) : Type 0 where
   pub is-listed : refusal listEffectsLimits (rewritten s) ≡ 0
   pub tree-is : treeOf (rewritten s) ≡ t
+  pub version-is : versionIn (rewritten s) ≡ versionIn s
   pub settings-is : settingsOf (rewritten s) ≡ settingsOf s
 
 -- What holds of the answer to an accepted file.
@@ -136,10 +138,11 @@ kept-within {s} {old} {new} {r} {n} a is-kept = rw (a .bytes) (go (number s (len
         omega (arith, length-append (rewritten s) (drop (length (rewritten s)) old))
     go (suc k) e = let z : _≡_ {A = ℕ} 0 (suc k) = ap (λ (x : Stated Case). x .number) e in absurd (omega arith)
 
--- The output that any answer fits: a file of 3,999 records, which 2,000 may become.
+-- The output that any answer fits: a file of 3,999 records of version 2, which 2,000 may become.
 abbrev pub mostOutput : ℕ
-mostOutput = 63992
+mostOutput = 79988
 
-pub most-enough : (n : ℕ) → n ≤ 2000 → leastOutput n ≤ mostOutput
+pub most-enough : (v : Version) (n : ℕ) → n ≤ 2000 → leastOutput v n ≤ mostOutput
 unfolding start span width
-most-enough n l = omega arith
+most-enough v1 n l = omega arith
+most-enough v2 n l = omega arith

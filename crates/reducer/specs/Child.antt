@@ -32,30 +32,31 @@ stepped-as : {old new : List ℕ} {slot slot′ next′ : ℕ} {p q : Progress} 
 stepped-as {old} {new} {slot} {slot′} {next′} e d = subst (λ (x : Progress). Stepped old new slot slot′ next′ x) e d
 
 module _ {s : List ℕ} {at size depth : ℕ} {old : List ℕ} {slot next : ℕ} where
-  pub child-inside : {room : ℕ} → GivenChild s at size depth old slot next room → at + 1 ≤ recordsIn s
+  pub child-inside : GivenChild s at size depth old slot next → at + 1 ≤ recordsIn s
   child-inside g = omega (arith, g .input .inside, some-size (g .input))
 
-  pub child-node : {room : ℕ} → GivenChild s at size depth old slot next room → SomeNode s at
+  pub child-node : GivenChild s at size depth old slot next → SomeNode s at
   child-node g = record { tree = g .tree; node = input-node (g .input) }
 
-  pub child-fits : {room : ℕ} → GivenChild s at size depth old slot next room → next + 1 + size ≤ room
+  pub child-fits : GivenChild s at size depth old slot next → next + 1 + size ≤ recordsIn old
   child-fits g = omega (arith, g .fits, some-size (g .input))
 
-  pub child-small : {room : ℕ} → GivenChild s at size depth old slot next room → size < 65535
+  pub child-small : GivenChild s at size depth old slot next → size < 65535
   child-small g = omega (arith, g .small, waits-after (g .waits), some-size (g .input))
 
-  pub child-tree : {room : ℕ} → GivenChild s at size depth old slot next room → GivenTree s at size depth next room
-  child-tree g = record { tree = g .tree; input = g .input; fits = omega (arith, g .fits); small = omega (arith, g .small, waits-after (g .waits)) }
+  pub child-tree : GivenChild s at size depth old slot next → GivenTree s at size depth old next
+  child-tree g = record { tree = g .tree; input = g .input; same = g .same; fits = omega (arith, g .fits); small = omega (arith, g .small, waits-after (g .waits)) }
 
-  given-settle : {mid : List ℕ} {end room : ℕ} → GivenChild s at size depth old slot next room → (left : List Tree) → Wrote old mid next end left → end ≤ next + 2 * size → room ≡ recordsIn old → GivenSettle s at mid slot next end
-  given-settle g left a l n = record {
+  given-settle : {mid : List ℕ} {end : ℕ} → GivenChild s at size depth old slot next → (left : List Tree) → Wrote old mid next end left → end ≤ next + 2 * size → GivenSettle s at mid slot next end
+  given-settle g left a l = record {
     node-inside = child-inside g;
+    same = a .frame .same ∙ g .same;
     list = record {
       wait = g .wait;
       waits = waits-agree (g .waits) (a .frame);
       left = left;
       spans = a .spans;
-      inside = omega (arith, n, a .frame .room, g .fits);
+      inside = omega (arith, a .frame .room, g .fits);
       small = omega (arith, g .small, some-size (g .input));
     };
   }
@@ -89,10 +90,10 @@ module _ {s : List ℕ} {at size depth : ℕ} {old mid : List ℕ} {next end : �
   wrapped-wrote : (t : Tree) → Input s at size depth (one t) → Wrote old mid next end (keepIf (flagged t) (makeArray (placeOf t) (t ∷ [])))
   wrapped-wrote t i = m .by t (input-node i) (omega (arith, i .holds .sized))
 
-  pub wrapped-given : {slot room : ℕ} → GivenChild s at size depth old slot next room → room ≡ recordsIn old → GivenSettle s at mid slot next end
-  wrapped-given g n = given-settle g (keepIf (flagged (g .tree)) (makeArray (placeOf (g .tree)) (g .tree ∷ []))) (wrapped-wrote (g .tree) (g .input)) (omega (arith, m .few, some-size (g .input))) n
+  pub wrapped-given : {slot : ℕ} → GivenChild s at size depth old slot next → GivenSettle s at mid slot next end
+  wrapped-given g = given-settle g (keepIf (flagged (g .tree)) (makeArray (placeOf (g .tree)) (g .tree ∷ []))) (wrapped-wrote (g .tree) (g .input)) (omega (arith, m .few, some-size (g .input)))
 
-  pub child-wrapped : {st : Settings} (part : Part) {slot room : ℕ} → GivenChild s at size depth old slot next room → {b : Bool} → Tells s at (waits part) b → b ≡ false → {c : Bool} → Tells s at (wraps part) c → c ≡ true
+  pub child-wrapped : {st : Settings} (part : Part) {slot : ℕ} → GivenChild s at size depth old slot next → {b : Bool} → Tells s at (waits part) b → b ≡ false → {c : Bool} → Tells s at (wraps part) c → c ≡ true
       → {new : List ℕ} {slot′ next′ : ℕ} → Settles s at part mid new slot next end slot′ next′ → ReducedChild s at size depth st part old new slot next slot′ next′
   child-wrapped {st} part g p e u v f =
       settled-child part p e (λ t i. wrote-as (wrapped-wrote t i) (sym (left-wrapped st part t (sym (u .by t (input-node i)) ∙ v)))) (omega (arith, m .few, some-size (g .input))) f
@@ -102,10 +103,10 @@ module _ {s : List ℕ} {at size depth : ℕ} {st : Settings} {old mid : List �
   reduced-few : (t : Tree) → Input s at size depth (one t) → end ≤ next + 2 * size
   reduced-few t i = omega (arith, m .by t i .spans .ends, at-most-twice st t, i .holds .sized)
 
-  pub reduced-given : {slot room : ℕ} → GivenChild s at size depth old slot next room → room ≡ recordsIn old → GivenSettle s at mid slot next end
-  reduced-given g n = given-settle g (reduce st (g .tree)) (m .by (g .tree) (g .input)) (reduced-few (g .tree) (g .input)) n
+  pub reduced-given : {slot : ℕ} → GivenChild s at size depth old slot next → GivenSettle s at mid slot next end
+  reduced-given g = given-settle g (reduce st (g .tree)) (m .by (g .tree) (g .input)) (reduced-few (g .tree) (g .input))
 
-  pub child-reduced : (part : Part) {slot room : ℕ} → GivenChild s at size depth old slot next room → {b : Bool} → Tells s at (waits part) b → b ≡ false → {c : Bool} → Tells s at (wraps part) c → c ≡ false
+  pub child-reduced : (part : Part) {slot : ℕ} → GivenChild s at size depth old slot next → {b : Bool} → Tells s at (waits part) b → b ≡ false → {c : Bool} → Tells s at (wraps part) c → c ≡ false
       → {new : List ℕ} {slot′ next′ : ℕ} → Settles s at part mid new slot next end slot′ next′ → ReducedChild s at size depth st part old new slot next slot′ next′
   child-reduced part g p e u v f =
       settled-child part p e (λ t i. wrote-as (m .by t i) (sym (left-reduced st part t (sym (u .by t (input-node i)) ∙ v)))) (reduced-few (g .tree) (g .input)) f

@@ -5,6 +5,7 @@ use Prim.Native.Nat.{ℕ, _+_, _*_, _-_, _<_, _≤_}
 use native.Mathlib.Omega.{arith}
 use lib.ListN.{length}
 use Rattle.tree.specs.Tree.{Forest, nil, node, Tree, trees}
+use Rattle.tree.specs.Layout.{versionIn}
 use Rattle.tree.specs.Room.{recordsIn}
 use Rattle.tree.specs.Fields.{subtreeAt}
 use Rattle.rules.specs.Settings.{Settings}
@@ -25,6 +26,7 @@ pub record Walking (s : List ℕ) (at size depth : ℕ) (st : Settings) (part : 
   pub same : length cur ≡ length old
   pub ends : e ≡ at + size
   pub small : 2 * size < 65536
+  pub as-wide : versionIn cur ≡ versionIn s
   pub fits : pos + 2 * size ≤ recordsIn cur
   pub behind : pos ≤ slot
   pub few : next ≤ pos + 2 * (p - at)
@@ -35,7 +37,7 @@ pub record Walking (s : List ℕ) (at size depth : ℕ) (st : Settings) (part : 
   pub whole : (new : List ℕ) (slot′ next′ : ℕ) → ReducedChildren s p (e - p) depth st part cur new slot next slot′ next′ → ReducedChildren s at size depth st part old new pos pos slot′ next′
 
 pub walk-start : {s : List ℕ} {at size depth : ℕ} {st : Settings} {part : Part} {old : List ℕ} {pos : ℕ}
-    → GivenChildren s at size depth pos (recordsIn old) → Walking s at size depth st part old pos at (at + size) old pos pos
+    → GivenChildren s at size depth old pos → Walking s at size depth st part old pos at (at + size) old pos pos
 walk-start {s} {at} {size} {depth} {st} {part} {old} {pos} g =
     let e : at + size - at ≡ size = omega arith in
     record {
@@ -44,6 +46,7 @@ walk-start {s} {at} {size} {depth} {st} {part} {old} {pos} g =
       same = refl;
       ends = refl;
       small = g .small;
+      as-wide = g .same;
       fits = g .fits;
       behind = omega arith;
       few = omega arith;
@@ -81,14 +84,15 @@ module _ {s : List ℕ} {at size depth : ℕ} {st : Settings} {part : Part} {old
         go nil i = absurd (omega (arith, i .holds .sized))
         go (node h cs rest) i = omega (arith, first-within i)
 
-    pub child-given : (z : ℕ) → z ≡ subtreeAt s p → GivenChild s p z depth cur slot next (recordsIn cur)
+    pub child-given : (z : ℕ) → z ≡ subtreeAt s p → GivenChild s p z depth cur slot next
     child-given z ez = rw ez (go (w .forest) (w .input))
       where
-        go : (f : Forest) → Input s p (e - p) depth f → GivenChild s p (subtreeAt s p) depth cur slot next (recordsIn cur)
+        go : (f : Forest) → Input s p (e - p) depth f → GivenChild s p (subtreeAt s p) depth cur slot next
         go nil i = absurd (omega (arith, i .holds .sized))
         go (node h cs rest) i = record {
           tree = record { head = h; kids = cs };
           input = first-input i;
+          same = w .as-wide;
           wait = w .wait;
           waits = w .waits;
           fits = omega (arith, w .fits, w .few, w .from, w .ends, child-within);
@@ -128,6 +132,7 @@ module _ {s : List ℕ} {at size depth : ℕ} {st : Settings} {part : Part} {old
                 same = n ∙ w .same;
                 ends = w .ends;
                 small = w .small;
+                as-wide = d .done .frame .same ∙ w .as-wide;
                 fits = omega (arith, w .fits, d .done .frame .room);
                 behind = omega (arith, w .behind, d .done .spans .ends);
                 few = omega (arith, w .few, a′ .few, w .from);

@@ -4,6 +4,7 @@ use mathlib.Core.List.{List, _++_}
 use Prim.Native.Nat.{ℕ, _+_, _<_, _≤_}
 use native.Mathlib.Omega.{arith}
 use Rattle.tree.specs.Tree.{Place, Head, Tree}
+use Rattle.tree.specs.Layout.{versionIn}
 use Rattle.tree.specs.Room.{recordsIn}
 use Rattle.tree.specs.Fields.{headAt}
 use Rattle.rules.specs.Made.{placeOf}
@@ -13,9 +14,11 @@ use Rattle.rewrite.specs.Waiting.{Waits, GivenWaiting, Flushed}
 use Rattle.rewrite.specs.Becomes.{GivenList, Becomes, noneOneSeveralOf}
 use Rattle.reducer.specs.Walked.{Progress}
 
--- Behind the free record pos stand trees that are settled, up to slot, and trees that wait, up to end.
+-- Behind the free record pos of out, whose records are as wide as those of s, stand trees that are settled, up to slot, and trees that
+-- wait, up to end.
 pub record GivenWalked (s : List ℕ) (at : ℕ) (out : List ℕ) (pos slot end : ℕ) : Type 0 where
   pub node-inside : at + 1 ≤ recordsIn s
+  pub same : versionIn out ≡ versionIn s
   pub progress : Progress
   pub settled : Spans out (pos + 1) slot (progress .done)
   pub waits : Waits out slot end (progress .waiting)
@@ -42,6 +45,7 @@ module _ {s : List ℕ} {at : ℕ} {old : List ℕ} {pos slot end : ℕ} where
     pub closing-list : GivenWalked s at old pos slot end → GivenList s at mid pos end
     closing-list g = record {
       node-inside = g .node-inside;
+      same = f .by (g .progress .waiting) (g .waits) .frame .same ∙ g .same;
       list = g .progress .done ++ flush make place (g .progress .waiting);
       spans = closed-list make f (g .progress) (g .settled) (g .waits);
       inside = omega (arith, f .by (g .progress .waiting) (g .waits) .frame .room, g .inside);

@@ -4,6 +4,7 @@ use mathlib.Core.List.{List, [], _∷_, append-nil}
 use Prim.Native.Nat.{ℕ, _+_, _*_, _-_, _<_, _≤_}
 use native.Mathlib.Omega.{arith}
 use Rattle.tree.specs.Tree.{Tree, forest, one, records, size}
+use Rattle.tree.specs.Layout.{versionIn}
 use Rattle.tree.specs.Room.{recordsIn}
 use Rattle.tree.specs.Fields.{subtreeAt}
 use Rattle.rules.specs.Settings.{Settings}
@@ -21,8 +22,8 @@ use Rattle.rewrite.specs.Arms.{GivenArms, JoinsArms}
 use Rattle.reducer.specs.Given.{GivenTree, ReducedTree}
 use Rattle.reducer.specs.Expression.{outcome-is}
 
-pub record GivenConditional (s : List ℕ) (at size depth : ℕ) (st : Settings) (pos room : ℕ) : Type 0 where
-  pub given : GivenTree s at size depth pos room
+pub record GivenConditional (s : List ℕ) (at size depth : ℕ) (st : Settings) (out : List ℕ) (pos : ℕ) : Type 0 where
+  pub given : GivenTree s at size depth out pos
   pub handles : Handles s at st Conditional
 
 -- The test takes q records, and the consequent c.
@@ -36,15 +37,15 @@ module _ {s : List ℕ} {at size depth : ℕ} {st : Settings} (h : Handles s at 
       outcome-is Conditional h t i .is ∙ rw (p .are, append-nil (reduce st (p .test)), append-nil (reduce st (p .consequent)), append-nil (reduce st (p .alternate)))
 
   -- What is given to the arms.
-  module _ {pos room : ℕ} (g : GivenTree s at size depth pos room) where
+  module _ {out : List ℕ} {pos : ℕ} (g : GivenTree s at size depth out pos) where
     p : Arms s at size depth (g .tree) q c
     p = parts (g .tree) (g .input)
 
     pub arms-within : 1 + q + c < size
     arms-within = p .within
 
-    pub consequent-given : GivenTree s (at + 1 + q) c (depth - 1) (pos + 1 + q) room
-    consequent-given = record { tree = p .consequent; input = p .consequent-in; fits = omega (arith, g .fits, p .within); small = omega (arith, g .small, p .within) }
+    pub consequent-given : GivenTree s (at + 1 + q) c (depth - 1) out (pos + 1 + q)
+    consequent-given = record { tree = p .consequent; input = p .consequent-in; same = g .same; fits = omega (arith, g .fits, p .within); small = omega (arith, g .small, p .within) }
 
   -- The consequent was reduced.
   module _ (pos : ℕ) {old mid : List ℕ} {middle : ℕ} (a : ReducedTree s (at + 1 + q) c (depth - 1) st old mid (pos + 1 + q) middle) where
@@ -53,13 +54,14 @@ module _ {s : List ℕ} {at size depth : ℕ} {st : Settings} (h : Handles s at 
         let p = parts t i in
         omega (arith, a .by (p .consequent) (p .consequent-in) .spans .ends, at-most-twice st (p .consequent), p .consequent-in .holds .sized, some-size (p .consequent-in))
 
-    pub alternate-given : {room : ℕ} → GivenTree s at size depth pos room → room ≡ recordsIn old → GivenTree s (at + 1 + q + c) (size - 1 - q - c) (depth - 1) middle (recordsIn mid)
-    alternate-given g n =
+    pub alternate-given : GivenTree s at size depth old pos → GivenTree s (at + 1 + q + c) (size - 1 - q - c) (depth - 1) mid middle
+    alternate-given g =
         let p = parts (g .tree) (g .input) in
         record {
           tree = p .alternate;
           input = p .alternate-in;
-          fits = omega (arith, n, a .by (p .consequent) (p .consequent-in) .frame .room, g .fits, p .within, consequent-few (g .tree) (g .input));
+          same = a .by (p .consequent) (p .consequent-in) .frame .same ∙ g .same;
+          fits = omega (arith, a .by (p .consequent) (p .consequent-in) .frame .room, g .fits, p .within, consequent-few (g .tree) (g .input));
           small = omega (arith, g .small, p .within);
         }
 
@@ -83,19 +85,23 @@ module _ {s : List ℕ} {at size depth : ℕ} {st : Settings} (h : Handles s at 
             few = omega (arith, y .spans .ends, at-most-twice st (p .alternate), p .alternate-in .holds .sized, some-size (p .alternate-in), p .within, consequent-few t i);
           }
 
+      pub test-same : GivenTree s at size depth old pos → versionIn mid′ ≡ versionIn s
+      test-same g = reached (g .tree) (g .input) .frame .same ∙ g .same
+
       -- Both are gone: the test is reduced in the conditional's place.
-      pub test-given : {room : ℕ} → GivenTree s at size depth pos room → room ≡ recordsIn old → GivenTree s (at + 1) q (depth - 1) pos (recordsIn mid′)
-      test-given g n =
+      pub test-given : GivenTree s at size depth old pos → GivenTree s (at + 1) q (depth - 1) mid′ pos
+      test-given g =
           let p = parts (g .tree) (g .input) in
           record {
             tree = p .test;
             input = p .test-in;
-            fits = omega (arith, n, reached (g .tree) (g .input) .frame .room, g .fits, p .within);
+            same = test-same g;
+            fits = omega (arith, reached (g .tree) (g .input) .frame .room, g .fits, p .within);
             small = omega (arith, g .small, p .within);
           }
 
-      pub test-room : {room : ℕ} → GivenTree s at size depth pos room → room ≡ recordsIn old → pos + 1 + q ≤ recordsIn mid′
-      test-room g n = let p = parts (g .tree) (g .input) in omega (arith, n, reached (g .tree) (g .input) .frame .room, g .fits, p .within)
+      pub test-room : GivenTree s at size depth old pos → pos + 1 + q ≤ recordsIn mid′
+      test-room g = let p = parts (g .tree) (g .input) in omega (arith, reached (g .tree) (g .input) .frame .room, g .fits, p .within)
 
       pub both-gone : end ≡ pos + 1 + q → {new : List ℕ} {r : ℕ} → ReducedTree s (at + 1) q (depth - 1) st mid′ new pos r → ReducedTree s at size depth st old new pos r
       both-gone e {new} {r} d = record { by = λ t i. go t i (reduce st (parts t i .consequent)) (reduce st (parts t i .alternate)) (reached t i .consequent) (reached t i .alternate) (joined t i) }
@@ -119,12 +125,13 @@ module _ {s : List ℕ} {at size depth : ℕ} {st : Settings} (h : Handles s at 
               ends = omega (arith, z);
             }
 
-        pub arms-given : {room : ℕ} → GivenTree s at size depth pos room → room ≡ recordsIn old → (end ≡ pos + 1 + q → ⊥) → GivenArms s at mid″ pos (pos + 1 + q) middle end
-        arms-given g n k =
+        pub arms-given : GivenTree s at size depth old pos → (end ≡ pos + 1 + q → ⊥) → GivenArms s at mid″ pos (pos + 1 + q) middle end
+        arms-given g k =
             let p = parts (g .tree) (g .input) in
             let w = reached (g .tree) (g .input) in
             record {
               node-inside = omega (arith, g .input .inside, some-size (g .input));
+              same = m .below .same ∙ test-same g;
               tests = p .test ∷ [];
               consequents = reduce st (p .consequent);
               alternates = reduce st (p .alternate);
@@ -132,7 +139,7 @@ module _ {s : List ℕ} {at size depth : ℕ} {st : Settings} (h : Handles s at 
               consequent-spans = spans-kept (w .consequent) (m .above) (omega arith);
               alternate-spans = spans-kept (w .alternate) (m .above) (omega (arith, w .consequent .ends));
               some = omega (arith, k, w .consequent .ends, w .alternate .ends);
-              inside = omega (arith, n, m .below .room, w .frame .room, w .few, g .fits);
+              inside = omega (arith, m .below .room, w .frame .room, w .few, g .fits);
               small = omega (arith, w .few, g .small);
             }
 

@@ -47,27 +47,28 @@ settled-all {old} {new} {pos} {slot} {next} {q} ts e d =
     rw z at (x .done)
 
 -- The room for a copy, and for what is left of the children behind a free record or with none.
-module _ {s : List ℕ} {at size depth pos room : ℕ} (g : GivenTree s at size depth pos room) where
-  pub given-copy : pos + size ≤ room
+module _ {s : List ℕ} {at size depth : ℕ} {old : List ℕ} {pos : ℕ} (g : GivenTree s at size depth old pos) where
+  pub given-copy : pos + size ≤ recordsIn old
   given-copy = omega (arith, g .fits, some-size (g .input))
 
-  pub inner-given : GivenChildren s (at + 1) (size - 1) (depth - 1) (pos + 1) room
-  inner-given = record { forest = g .tree .kids; input = kids-input (g .input); fits = omega (arith, g .fits, some-size (g .input)); small = omega (arith, g .small) }
+  pub inner-given : GivenChildren s (at + 1) (size - 1) (depth - 1) old (pos + 1)
+  inner-given = record { forest = g .tree .kids; input = kids-input (g .input); same = g .same; fits = omega (arith, g .fits, some-size (g .input)); small = omega (arith, g .small) }
 
-  pub outer-given : GivenChildren s (at + 1) (size - 1) (depth - 1) pos room
-  outer-given = record { forest = g .tree .kids; input = kids-input (g .input); fits = omega (arith, g .fits, some-size (g .input)); small = omega (arith, g .small) }
+  pub outer-given : GivenChildren s (at + 1) (size - 1) (depth - 1) old pos
+  outer-given = record { forest = g .tree .kids; input = kids-input (g .input); same = g .same; fits = omega (arith, g .fits, some-size (g .input)); small = omega (arith, g .small) }
 
-pub whole-given : {s : List ℕ} {at size depth pos room : ℕ} → GivenTree s at size depth pos room → whole.GivenTree s at size pos room
-whole-given {depth = depth} g = record { tree = g .tree; depth = depth; input = g .input; fits = omega (arith, g .fits, some-size (g .input)) }
+pub whole-given : {s : List ℕ} {at size depth : ℕ} {old : List ℕ} {pos : ℕ} → GivenTree s at size depth old pos → whole.GivenTree s at size old pos
+whole-given {depth = depth} g = record { tree = g .tree; depth = depth; input = g .input; same = g .same; fits = omega (arith, g .fits, some-size (g .input)) }
 
 -- A list behind the free record at pos, and what it becomes.
 module _ {s : List ℕ} {at size depth : ℕ} {old mid : List ℕ} {pos next : ℕ} where
-  given-list : {room : ℕ} → GivenTree s at size depth pos room → (ts : List Tree) → Wrote old mid (pos + 1) next ts → next ≤ pos + 1 + 2 * (size - 1) → room ≡ recordsIn old → GivenList s at mid pos next
-  given-list g ts w l n = record {
+  given-list : GivenTree s at size depth old pos → (ts : List Tree) → Wrote old mid (pos + 1) next ts → next ≤ pos + 1 + 2 * (size - 1) → GivenList s at mid pos next
+  given-list g ts w l = record {
     node-inside = omega (arith, g .input .inside, some-size (g .input));
+    same = w .frame .same ∙ g .same;
     list = ts;
     spans = w .spans;
-    inside = omega (arith, n, w .frame .room, g .fits, some-size (g .input));
+    inside = omega (arith, w .frame .room, g .fits, some-size (g .input));
     small = omega (arith, g .small, some-size (g .input));
   }
 
@@ -100,8 +101,8 @@ module _ {s : List ℕ} {at size depth : ℕ} {st : Settings} where
   -- Children of which none wait, behind the free record at pos.
   module _ {old mid : List ℕ} {pos slot next : ℕ} where
     module _ (a : ReducedChildren s (at + 1) (size - 1) (depth - 1) st InOrder old mid (pos + 1) (pos + 1) slot next) where
-      pub in-order-list : {room : ℕ} → GivenTree s at size depth pos room → room ≡ recordsIn old → GivenList s at mid pos next
-      in-order-list g n = given-list g (concatMap (reduce st) (trees (g .tree .kids))) (in-order-wrote a (g .tree) (g .input)) (omega (arith, a .few)) n
+      pub in-order-list : GivenTree s at size depth old pos → GivenList s at mid pos next
+      in-order-list g = given-list g (concatMap (reduce st) (trees (g .tree .kids))) (in-order-wrote a (g .tree) (g .input)) (omega (arith, a .few))
 
       becomes-done : (o : Rewrite) (f : Tree → List Tree → List Tree) → ((t : Tree) → f t (concatMap (reduce st) (trees (t .kids))) ≡ rewritten o st t) → Handles s at st (Rewritten o)
           → {new : List ℕ} {r : ℕ} → Becomes f s at mid new pos next r → ReducedTree s at size depth st old new pos r
@@ -118,15 +119,16 @@ module _ {s : List ℕ} {at size depth : ℕ} {st : Settings} where
 
     -- Where some may wait.
     module _ {part : Part} (a : ReducedChildren s (at + 1) (size - 1) (depth - 1) st part old mid (pos + 1) (pos + 1) slot next) where
-      pub walked-given : {room : ℕ} → GivenTree s at size depth pos room → room ≡ recordsIn old → GivenWalked s at mid pos slot next
-      walked-given g n =
+      pub walked-given : GivenTree s at size depth old pos → GivenWalked s at mid pos slot next
+      walked-given g =
           let d = walked-stepped a (g .tree) (g .input) in
           record {
             node-inside = omega (arith, g .input .inside, some-size (g .input));
+            same = d .done .frame .same ∙ g .same;
             progress = walked part st [] (trees (g .tree .kids));
             settled = d .done .spans;
             waits = d .waiting;
-            inside = omega (arith, n, d .done .frame .room, g .fits, some-size (g .input), a .few);
+            inside = omega (arith, d .done .frame .room, g .fits, some-size (g .input), a .few);
             small = omega (arith, g .small, some-size (g .input), a .few);
           }
 
@@ -153,17 +155,18 @@ module _ {s : List ℕ} {at size depth : ℕ} {st : Settings} where
     callee-split : (t : Tree) → Input s at size depth (one t) → Split s at size depth t 1 (subtreeAt s (at + 1))
     callee-split t i = split i 1 (omega arith) (outcome-is Arguments h t i .has)
 
-    pub callee-first : {pos room : ℕ} → GivenTree s at size depth pos room → GivenFirst s at 1
+    pub callee-first : {out : List ℕ} {pos : ℕ} → GivenTree s at size depth out pos → GivenFirst s at 1
     callee-first g = given-first (g .input) 1 (outcome-is Arguments h (g .tree) (g .input) .has)
 
     module _ (k : ℕ) (ek : k ≡ subtreeAt s (at + 1)) where
-      pub callee-within : {pos room : ℕ} → GivenTree s at size depth pos room → k ≤ size - 1
+      pub callee-within : {out : List ℕ} {pos : ℕ} → GivenTree s at size depth out pos → k ≤ size - 1
       callee-within g = omega (arith, ek, callee-split (g .tree) (g .input) .within)
 
-      pub arguments-given : {pos room : ℕ} → GivenTree s at size depth pos room → GivenChildren s (at + 1 + k) (size - 1 - k) (depth - 1) (pos + 1) room
+      pub arguments-given : {out : List ℕ} {pos : ℕ} → GivenTree s at size depth out pos → GivenChildren s (at + 1 + k) (size - 1 - k) (depth - 1) out (pos + 1)
       arguments-given g = rw ek (record {
         forest = callee-split (g .tree) (g .input) .rest;
         input = callee-split (g .tree) (g .input) .rest-in;
+        same = g .same;
         fits = omega (arith, g .fits, some-size (g .input), callee-split (g .tree) (g .input) .within);
         small = omega (arith, g .small);
       })
@@ -177,8 +180,8 @@ module _ {s : List ℕ} {at size depth : ℕ} {st : Settings} where
           (ap (walked Argument st []) (c .rest-is) ∙ arguments-walked st (drop 1 (trees (t .kids)))) d
 
       module _ {old mid : List ℕ} {pos slot next : ℕ} (a : ReducedChildren s (at + 1 + k) (size - 1 - k) (depth - 1) st Argument old mid (pos + 1) (pos + 1) slot next) where
-        pub arguments-list : {room : ℕ} → GivenTree s at size depth pos room → room ≡ recordsIn old → GivenList s at mid pos next
-        arguments-list g n = given-list g (foldArgumentsIntoNeededExpressions (map (reduced st) (drop 1 (trees (g .tree .kids))))) (arguments-wrote a (g .tree) (g .input)) (omega (arith, a .few)) n
+        pub arguments-list : GivenTree s at size depth old pos → GivenList s at mid pos next
+        arguments-list g = given-list g (foldArgumentsIntoNeededExpressions (map (reduced st) (drop 1 (trees (g .tree .kids))))) (arguments-wrote a (g .tree) (g .input)) (omega (arith, a .few))
 
         pub arguments-done : {new : List ℕ} {r : ℕ} → Becomes noneOneSeveralOf s at mid new pos next r → ReducedTree s at size depth st old new pos r
         arguments-done b = record { by = λ t i. wrote-as (becomes-left noneOneSeveralOf b t i (foldArgumentsIntoNeededExpressions (map (reduced st) (drop 1 (trees (t .kids))))) (arguments-wrote a t i)) (sym (outcome-is Arguments h t i .is)) }
@@ -187,7 +190,7 @@ module _ {s : List ℕ} {at size depth : ℕ} {st : Settings} where
   pub addition-done : Handles s at st Addition → {old new : List ℕ} {pos r : ℕ} → RemovesAddition s at size old new pos r → ReducedTree s at size depth st old new pos r
   addition-done h a = record { by = λ t i. wrote-as (a .by t depth i) (sym (outcome-is Addition h t i .is)) }
 
-  pub class-given : Handles s at st Class → {pos room : ℕ} → GivenTree s at size depth pos room → GivenClass s at size pos room
+  pub class-given : Handles s at st Class → {out : List ℕ} {pos : ℕ} → GivenTree s at size depth out pos → GivenClass s at size out pos
   class-given h g = record {
     given = whole-given g;
     kind-is = ap (λ (x : Head). x .kind) (g .input .holds .stands .0) ∙ outcome-is Class h (g .tree) (g .input) .has .0;
@@ -197,8 +200,8 @@ module _ {s : List ℕ} {at size depth : ℕ} {st : Settings} where
   class-done h a = record { by = λ t i. wrote-as (a .by t depth i) (sym (outcome-is Class h t i .is)) }
 
 -- A node that is rewritten over what is left of its children, as the match found it.
-pub record GivenRewritten (s : List ℕ) (at size depth : ℕ) (st : Settings) (made : Rewrite) (pos room : ℕ) : Type 0 where
-  pub given : GivenTree s at size depth pos room
+pub record GivenRewritten (s : List ℕ) (at size depth : ℕ) (st : Settings) (made : Rewrite) (out : List ℕ) (pos : ℕ) : Type 0 where
+  pub given : GivenTree s at size depth out pos
   pub handles : Handles s at st (Rewritten made)
 
 pub as-made : {s : List ℕ} {at : ℕ} {st : Settings} {made : Rewrite} (x : Rewrite) → made ≡ x → Handles s at st (Rewritten made) → Handles s at st (Rewritten x)

@@ -1,8 +1,10 @@
 -- What the reducers are given and what they leave.
+use mathlib.Core.Path.{_≡_}
 use mathlib.Core.List.{List}
 use Prim.Native.Nat.{ℕ, _+_, _*_, _<_, _≤_}
 use native.Mathlib.Omega.{arith}
 use Rattle.tree.specs.Tree.{Forest, Tree, trees, one}
+use Rattle.tree.specs.Layout.{versionIn}
 use Rattle.tree.specs.Room.{recordsIn}
 use Rattle.rules.specs.Settings.{Settings}
 use Rattle.rules.specs.Reduce.{reduce}
@@ -15,11 +17,12 @@ use Rattle.reducer.specs.declared.walk.Part.{Part}
 use Rattle.reducer.specs.Walked.{step, walked}
 use Rattle.reducer.specs.Settled.{Stepped}
 
--- A tree stands at record `at`, and from record pos on there is room for 2 × size − 1 records.
-pub record GivenTree (s : List ℕ) (at size depth pos room : ℕ) : Type 0 where
+-- A tree stands at record `at`, and out, whose records are as wide, has room for 2 × size − 1 records from record pos on.
+pub record GivenTree (s : List ℕ) (at size depth : ℕ) (out : List ℕ) (pos : ℕ) : Type 0 where
   pub tree : Tree
   pub input : Input s at size depth (one tree)
-  pub fits : pos + 2 * size ≤ room + 1
+  pub same : versionIn out ≡ versionIn s
+  pub fits : pos + 2 * size ≤ recordsIn out + 1
   pub small : 2 * size < 65536
 
 -- Whatever tree stands there, what is left of it was written from record pos to record r.
@@ -27,12 +30,13 @@ pub record ReducedTree (s : List ℕ) (at size depth : ℕ) (st : Settings) (old
   pub by : (t : Tree) → Input s at size depth (one t) → Wrote old new pos r (reduce st t)
 
 -- A child, behind trees that wait; there is room for 2 × size records.
-pub record GivenChild (s : List ℕ) (at size depth : ℕ) (out : List ℕ) (slot next room : ℕ) : Type 0 where
+pub record GivenChild (s : List ℕ) (at size depth : ℕ) (out : List ℕ) (slot next : ℕ) : Type 0 where
   pub tree : Tree
   pub input : Input s at size depth (one tree)
+  pub same : versionIn out ≡ versionIn s
   pub wait : List Tree
   pub waits : Waits out slot next wait
-  pub fits : next + 2 * size ≤ room
+  pub fits : next + 2 * size ≤ recordsIn out
   pub small : next + 2 * size < slot + 65536
 
 -- Whatever tree stands there, and whatever waited, the step over it was made.
@@ -41,10 +45,11 @@ pub record ReducedChild (s : List ℕ) (at size depth : ℕ) (st : Settings) (pa
   pub few : next′ ≤ next + 2 * size
 
 -- A list of children, with room for 2 × size records.
-pub record GivenChildren (s : List ℕ) (at size depth pos room : ℕ) : Type 0 where
+pub record GivenChildren (s : List ℕ) (at size depth : ℕ) (out : List ℕ) (pos : ℕ) : Type 0 where
   pub forest : Forest
   pub input : Input s at size depth forest
-  pub fits : pos + 2 * size ≤ room
+  pub same : versionIn out ≡ versionIn s
+  pub fits : pos + 2 * size ≤ recordsIn out
   pub small : 2 * size < 65536
 
 -- Whatever list stands there, and whatever waited, the walk over it was made.
@@ -52,7 +57,7 @@ pub record ReducedChildren (s : List ℕ) (at size depth : ℕ) (st : Settings) 
   pub by : (f : Forest) → Input s at size depth f → (w : List Tree) → Waits old slot next w → Stepped old new slot slot′ next′ (walked part st w (trees f))
   pub few : next′ ≤ next + 2 * size
 
-module _ {s : List ℕ} {at size depth pos room : ℕ} (g : GivenTree s at size depth pos room) where
+module _ {s : List ℕ} {at size depth : ℕ} {out : List ℕ} {pos : ℕ} (g : GivenTree s at size depth out pos) where
   pub given-node : SomeNode s at
   given-node = record { tree = g .tree; node = input-node (g .input) }
 

@@ -5,6 +5,7 @@ use mathlib.Core.List.{List, [], _∷_}
 use Prim.Native.Nat.{ℕ, _+_, _<_, _≤_}
 use native.Mathlib.Omega.{arith}
 use Rattle.tree.specs.Tree.{Place, Head, Tree}
+use Rattle.tree.specs.Layout.{versionIn}
 use Rattle.tree.specs.Room.{recordsIn}
 use Rattle.tree.specs.Fields.{headAt}
 use Rattle.rules.specs.Made.{placeOf, makeTemplate, makeObject}
@@ -37,6 +38,7 @@ pub record SettlesKept (old new : List ℕ) (slot next end slot′ next′ : ℕ
 
 pub record GivenSettle (s : List ℕ) (at : ℕ) (out : List ℕ) (slot next end : ℕ) : Type 0 where
   pub node-inside : at + 1 ≤ recordsIn s
+  pub same : versionIn out ≡ versionIn s
   pub list : GivenSettled out slot next end
 
 pub record Settles (s : List ℕ) (at : ℕ) (part : Part) (old new : List ℕ) (slot next end slot′ next′ : ℕ) : Type 0 where

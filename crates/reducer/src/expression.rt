@@ -6,7 +6,6 @@ use crate::walk::Part;
 use crate::walk::Walked;
 use handlers::outcome::Outcome;
 use handlers::outcome::Rewrite;
-ghost use Rattle.tree.specs.Room.{recordsIn};
 ghost use Rattle.readings.specs.Node.{settingsWith};
 ghost use Rattle.reducer.specs.Expression.{GivenRewritten};
 ghost use Rattle.reducer.specs.Conditional.{GivenConditional};
@@ -23,7 +22,7 @@ fn reduce_children(
     out: &mut [u8],
     pos: usize,
 ) -> Walked
-    requires { ⌜ GivenChildren (now src) at size depth pos (recordsIn (now out)) ⌝ }
+    requires { ⌜ GivenChildren (now src) at size depth (now out) pos ⌝ }
     ensures { λ r. ⌜ ReducedChildren (now (src .entry)) at size depth (settingsWith settings) part (now (out .entry)) (now (out .exit)) pos pos (r .slot) (r .next) ⌝ }
 {
     let end = at + size;
@@ -52,7 +51,7 @@ fn reduce_child(
     slot: usize,
     next: usize,
 ) -> Walked
-    requires { ⌜ GivenChild (now src) at size depth (now out) slot next (recordsIn (now out)) ⌝ }
+    requires { ⌜ GivenChild (now src) at size depth (now out) slot next ⌝ }
     ensures { λ r. ⌜ ReducedChild (now (src .entry)) at size depth (settingsWith settings) part (now (out .entry)) (now (out .exit)) slot next (r .slot) (r .next) ⌝ }
 {
     if walk::waits_at(src, at, part) {
@@ -76,7 +75,7 @@ pub fn remove_unused_expression(
     out: &mut [u8],
     pos: usize,
 ) -> usize
-    requires { ⌜ GivenTree (now src) at size depth pos (recordsIn (now out)) ⌝ }
+    requires { ⌜ GivenTree (now src) at size depth (now out) pos ⌝ }
     ensures { λ r. ⌜ ReducedTree (now (src .entry)) at size depth (settingsWith settings) (now (out .entry)) (now (out .exit)) pos r ⌝ }
 {
     let outcome = handlers::handle(src, at, settings);
@@ -118,7 +117,7 @@ fn reduce_conditional(
     out: &mut [u8],
     pos: usize,
 ) -> usize
-    requires { ⌜ GivenConditional (now src) at size depth (settingsWith settings) pos (recordsIn (now out)) ⌝ }
+    requires { ⌜ GivenConditional (now src) at size depth (settingsWith settings) (now out) pos ⌝ }
     ensures { λ r. ⌜ ReducedTree (now (src .entry)) at size depth (settingsWith settings) (now (out .entry)) (now (out .exit)) pos r ⌝ }
 {
     let below = depth - 1;
@@ -149,7 +148,7 @@ fn reduce_rewritten(
     out: &mut [u8],
     pos: usize,
 ) -> usize
-    requires { ⌜ GivenRewritten (now src) at size depth (settingsWith settings) made pos (recordsIn (now out)) ⌝ }
+    requires { ⌜ GivenRewritten (now src) at size depth (settingsWith settings) made (now out) pos ⌝ }
     ensures { λ r. ⌜ ReducedTree (now (src .entry)) at size depth (settingsWith settings) (now (out .entry)) (now (out .exit)) pos r ⌝ }
 {
     let first = at + 1;

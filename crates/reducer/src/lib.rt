@@ -5,13 +5,15 @@ mod header;
 mod walk;
 
 use file::Checked;
+ghost use mathlib.Core.Path.{_≡_};
 ghost use Prim.Native.Nat.{_≤_};
 ghost use lib.ListN.{length};
+ghost use Rattle.tree.specs.Layout.{versionIn};
 ghost use Rattle.reducer.specs.Answer.{leastOutput, Answers};
 ghost use Rattle.reducer.specs.Run.{GivenFile};
 
-// The output that any file's answer fits: a file of 3,999 records, which 2,000 may become.
-pub const MOST_OUTPUT: usize = 63992;
+// The output that any file's answer fits: a file of 3,999 records of version 2, which 2,000 may become.
+pub const MOST_OUTPUT: usize = 79988;
 
 pub enum Reduced {
     // The number of the first refusal that applies; no byte of the output has changed.
@@ -35,25 +37,27 @@ pub fn reduce(src: &[u8], out: &mut [u8]) -> Reduced
     match checked {
         Checked::Refused(number) => Reduced::Refused(number),
         Checked::Accepted { settings, count } => {
-            if out.len() < fields::file_length(src, 2 * count - 1) {
+            let least = fields::file_length(src, 2 * count - 1);
+            if out.len() < least {
                 return Reduced::Refused(9);
             }
-            reduce_by_size(src, count, settings, out)
+            reduce_by_size(src, count, settings, least, out)
         }
     }
 }
 
 // What is left is worked out in a buffer of its own, since a list may turn out shorter than the records left free for it, and then
-// copied. The buffer is the smallest of three that has room: to fill the largest would cost a small tree more than its reduction.
-fn reduce_by_size(src: &[u8], count: usize, settings: u8, out: &mut [u8]) -> Reduced
-    requires { ⌜ GivenFile (now src) count settings (now out) ⌝ }
+// copied. The buffer is the smallest of three that has room: to fill the largest would cost a small tree more than its reduction. Of
+// version 1 they have room for 63, 511 and 3,999 records and more, which 32, 256 and 2,000 may become.
+fn reduce_by_size(src: &[u8], count: usize, settings: u8, least: usize, out: &mut [u8]) -> Reduced
+    requires { ⌜ GivenFile (now src) count settings (now out) × (least ≡ leastOutput (versionIn (now src)) count) ⌝ }
     ensures { λ r. ⌜ Answers (now (src .entry)) (now (out .entry)) (now (out .exit)) r ⌝ }
 {
-    if count <= 32 {
+    if least <= 1016 {
         let mut work = [0u8; 1016];
         return reduce_in(src, count, settings, &mut work, out);
     }
-    if count <= 256 {
+    if least <= 8184 {
         let mut work = [0u8; 8184];
         return reduce_in(src, count, settings, &mut work, out);
     }
@@ -62,9 +66,10 @@ fn reduce_by_size(src: &[u8], count: usize, settings: u8, out: &mut [u8]) -> Red
 }
 
 fn reduce_in(src: &[u8], count: usize, settings: u8, work: &mut [u8], out: &mut [u8]) -> Reduced
-    requires { ⌜ GivenFile (now src) count settings (now out) × (leastOutput count ≤ length (now work)) ⌝ }
+    requires { ⌜ GivenFile (now src) count settings (now out) × (leastOutput (versionIn (now src)) count ≤ length (now work)) ⌝ }
     ensures { λ r. ⌜ Answers (now (src .entry)) (now (out .entry)) (now (out .exit)) r ⌝ }
 {
+    header::copy_header(src, work);
     let end = expression::remove_unused_expression(
         src,
         0,
@@ -77,7 +82,7 @@ fn reduce_in(src: &[u8], count: usize, settings: u8, work: &mut [u8], out: &mut 
     if end == 0 {
         return Reduced::Removable;
     }
-    header::write_header(src, work, end);
+    header::write_count(work, end);
     let length = fields::file_length(src, end);
     output::copy_bytes(work, 0, length, out, 0);
     Reduced::Kept(length)

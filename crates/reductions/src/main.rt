@@ -61,14 +61,34 @@ fn print_reduced(src: &[u8], out: &mut [u8], fill: u8) {
 }
 
 fn print_file(bytes: &[u8]) {
+    let ends = has_ends(bytes);
     let mut i = 0;
     while i < bytes.len() {
         print_byte(bytes[i]);
         i += 1;
-        if i % 16 == 8 {
+        if ends_line(i, ends) {
             io::write_all(STDOUT_FILENO, b"\n");
         }
     }
+}
+
+// Whether the records of a file have an end, as those of version 2 do.
+fn has_ends(bytes: &[u8]) -> bool {
+    if bytes.len() < 8 {
+        return false;
+    }
+    bytes[3] == 2
+}
+
+// Whether a file's first i bytes are its header, or that and whole records.
+fn ends_line(i: usize, ends: bool) -> bool {
+    if i < 8 {
+        return false;
+    }
+    if ends {
+        return (i - 8) % 20 == 0;
+    }
+    (i - 8) % 16 == 0
 }
 
 fn print_byte(byte: u8) {

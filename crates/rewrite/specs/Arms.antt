@@ -4,6 +4,7 @@ use mathlib.Core.List.{List, [], _∷_, _++_}
 use Prim.Native.Nat.{ℕ, _+_, _<_, _≤_}
 use native.Mathlib.Omega.{arith}
 use Rattle.tree.specs.Tree.{Place, Head, Tree}
+use Rattle.tree.specs.Layout.{versionIn}
 use Rattle.tree.specs.Room.{recordsIn}
 use Rattle.tree.specs.Fields.{headAt}
 use Rattle.rules.specs.Made.{andSub, orSub, makeLogical, withChildren}
@@ -13,9 +14,11 @@ use Rattle.output.specs.Trees.{Spans, Wrote, wrote-as, spans-append}
 use Rattle.rewrite.specs.Made.{GivenMade, Makes}
 use Rattle.rewrite.specs.Becomes.{GivenList, Becomes, list-made}
 
--- The conditional at record `at` of s, and behind the free record pos of out its test and what is left of its arms.
+-- The conditional at record `at` of s, and behind the free record pos of out, whose records are as wide, its test and what is left of its
+-- arms.
 pub record GivenArms (s : List ℕ) (at : ℕ) (out : List ℕ) (pos arms middle end : ℕ) : Type 0 where
   pub node-inside : at + 1 ≤ recordsIn s
+  pub same : versionIn out ≡ versionIn s
   pub tests : List Tree
   pub consequents : List Tree
   pub alternates : List Tree
@@ -36,6 +39,7 @@ module _ {s : List ℕ} {at : ℕ} {out : List ℕ} {pos arms middle end : ℕ} 
   pub arms-list : GivenList s at out pos end
   arms-list = record {
     node-inside = g .node-inside;
+    same = g .same;
     list = g .tests ++ (g .consequents ++ g .alternates);
     spans = spans-append (g .tests) (g .consequents ++ g .alternates) (g .test-spans) (spans-append (g .consequents) (g .alternates) (g .consequent-spans) (g .alternate-spans));
     inside = g .inside;

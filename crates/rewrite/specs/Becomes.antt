@@ -6,6 +6,7 @@ use mathlib.Core.Logic.{_⊎_, inl, inr}
 use Prim.Native.Nat.{ℕ, _+_, _-_, _<_, _≤_}
 use native.Mathlib.Omega.{arith}
 use Rattle.tree.specs.Tree.{Place, Head, Tree, forest, records}
+use Rattle.tree.specs.Layout.{versionIn}
 use Rattle.tree.specs.Room.{recordsIn}
 use Rattle.tree.specs.Fields.{headAt, subtreeAt}
 use Rattle.rules.specs.Lists.{any}
@@ -17,9 +18,10 @@ use Rattle.output.specs.Trees.{Spans, Wrote, wrote-none, wrote-as, stands-copie
 use Rattle.output.specs.Lists.{Spanned, Counts, AnyOf}
 use Rattle.rewrite.specs.Made.{GivenMade, Makes}
 
--- The node at record `at` of s, and some list behind the free record pos of out.
+-- The node at record `at` of s, and some list behind the free record pos of out, whose records are as wide.
 pub record GivenList (s : List ℕ) (at : ℕ) (out : List ℕ) (pos end : ℕ) : Type 0 where
   pub node-inside : at + 1 ≤ recordsIn s
+  pub same : versionIn out ≡ versionIn s
   pub list : List Tree
   pub spans : Spans out (pos + 1) end list
   pub inside : end ≤ recordsIn out

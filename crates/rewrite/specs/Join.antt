@@ -5,8 +5,9 @@ use Prim.Native.Nat.{ℕ, suc, _+_, _-_, _<_, _≤_}
 use native.Mathlib.Omega.{arith}
 use borrow.Author.Tests.{eq-eqb, ne-eqb}
 use Rattle.tree.specs.Tree.{Place, Head, Forest, Tree, trees, forest, forest-trees, records}
+use Rattle.tree.specs.Layout.{versionIn}
 use Rattle.tree.specs.Room.{recordsIn}
-use Rattle.tree.specs.Fields.{headAt, subtreeAt}
+use Rattle.tree.specs.Fields.{placeIn, headAt, subtreeAt}
 use Rattle.tree.specs.Stands.{Stands}
 use Rattle.rules.specs.Handler.{isKind}
 use Rattle.rules.specs.Made.{placeOf, makeSequence, joinSequence}
@@ -81,11 +82,15 @@ module _ {old : List ℕ} {pos second end : ℕ} where
       small = omega (arith, g .small);
     }
 
-    pub joins-left : (k : ℕ) → k ≡ headAt old (pos + 1) .kind → k ≡ kind.sequence → {new : List ℕ} {place : Place} → Makes makeSequence mid new pos (end - 1) place → Joins old new pos second end place (end - 1)
+    pub joins-left : (k : ℕ) → k ≡ headAt old (pos + 1) .kind → k ≡ kind.sequence → {new : List ℕ} (place : Place) → Makes makeSequence mid new pos (end - 1) (placeIn (versionIn mid) place)
+        → Joins old new pos second end (placeIn (versionIn old) place) (end - 1)
     unfolding joinSequence isKind
-    joins-left k ek e {new} {place} w = record { by = λ a b d. go a b d }
+    joins-left k ek e {new} place v = record { by = λ a b d. go a b d }
       where
-        go : (a b : Tree) → Pair old pos second end a b → Wrote old new pos (end - 1) (joinSequence place a b ∷ [])
+        w : Makes makeSequence mid new pos (end - 1) (placeIn (versionIn old) place)
+        w = rw (m .below .same) at v
+
+        go : (a b : Tree) → Pair old pos second end a b → Wrote old new pos (end - 1) (joinSequence (placeIn (versionIn old) place) a b ∷ [])
         go a b d =
             let y : a .head .kind ≡ kind.sequence = sym (ap (λ (h : Head). h .kind) (d .left .stands .0)) ∙ sym ek ∙ e in
             let x = w .by (trees (a .kids) ++ (b ∷ [])) (left-list n en m a b d) in
@@ -102,11 +107,15 @@ module _ {old : List ℕ} {pos second end : ℕ} where
     }
 
     pub joins-right : (k : ℕ) → k ≡ headAt old (pos + 1) .kind → (k ≡ kind.sequence → ⊥) → (j : ℕ) → j ≡ headAt old second .kind → j ≡ kind.sequence
-        → {new : List ℕ} {place : Place} → Makes makeSequence mid new pos (end - 1) place → Joins old new pos second end place (end - 1)
+        → {new : List ℕ} (place : Place) → Makes makeSequence mid new pos (end - 1) (placeIn (versionIn mid) place)
+        → Joins old new pos second end (placeIn (versionIn old) place) (end - 1)
     unfolding joinSequence isKind
-    joins-right k ek nk j ej e {new} {place} w = record { by = λ a b d. go a b d }
+    joins-right k ek nk j ej e {new} place v = record { by = λ a b d. go a b d }
       where
-        go : (a b : Tree) → Pair old pos second end a b → Wrote old new pos (end - 1) (joinSequence place a b ∷ [])
+        w : Makes makeSequence mid new pos (end - 1) (placeIn (versionIn old) place)
+        w = rw (m .below .same) at v
+
+        go : (a b : Tree) → Pair old pos second end a b → Wrote old new pos (end - 1) (joinSequence (placeIn (versionIn old) place) a b ∷ [])
         go a b d =
             let z : a .head .kind ≡ kind.sequence → ⊥ = λ q. nk (ek ∙ ap (λ (h : Head). h .kind) (d .left .stands .0) ∙ q) in
             let y : b .head .kind ≡ kind.sequence = sym (ap (λ (h : Head). h .kind) (d .right .stands .0)) ∙ sym ej ∙ e in

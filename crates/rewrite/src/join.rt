@@ -1,7 +1,7 @@
 // Both sides of a comparison.
 use fields::Place;
 use fields::kind;
-ghost use Rattle.fields.specs.Place.{asPlace};
+ghost use Rattle.fields.specs.Place.{saidIn};
 ghost use Rattle.rewrite.specs.Becomes.{GivenList, Becomes, joinKeptOf};
 ghost use Rattle.rewrite.specs.Join.{GivenPair, Joins};
 
@@ -9,7 +9,7 @@ ghost use Rattle.rewrite.specs.Join.{GivenPair, Joins};
 // gets a in front; else the two make a sequence".
 fn join_sequence(out: &mut [u8], pos: usize, second: usize, end: usize, place: Place) -> usize
     requires { ⌜ GivenPair (now out) pos second end ⌝ }
-    ensures { λ r. ⌜ Joins (now (out .entry)) (now (out .exit)) pos second end (asPlace place) r ⌝ }
+    ensures { λ r. ⌜ Joins (now (out .entry)) (now (out .exit)) pos second end (saidIn (now (out .entry)) place) r ⌝ }
 {
     let first = pos + 1;
     if fields::kind_at(out, first) == kind::SEQUENCE {

@@ -23,10 +23,11 @@ use Rattle.rules.specs.Effects
 abbrev settings : Settings
 settings = record { byte = 0; yes = [] }
 
--- A node of a kind, with facts, sub, text and place, over its children.
+-- A node of a kind, with facts, sub, text and place, over its children. Its end is told by its start, so that a place whose ends are
+-- those of two nodes is none of the table's.
 abbrev node : ℕ → ℕ → ℕ → ℕ → ℕ → List Tree → Tree
 node kind facts sub text place ts =
-    let head : Head = record { kind = kind; facts = facts; sub = sub; reserved = 0; text = text; place = record { start = place } } in
+    let head : Head = record { kind = kind; facts = facts; sub = sub; reserved = 0; text = text; place = record { start = place; end = place + 100 } } in
     record { head = head; kids = forest ts }
 
 -- An identifier that nothing is known of, and a call of one; a number; a spread of x.

@@ -7,9 +7,10 @@ use native.Mathlib.Nat.{le-trans}
 use native.Mathlib.Omega.{arith}
 use lib.Dec.{eqb}
 use lib.ListN.{length}
-use Rattle.tree.specs.Tree.{Tree, trees, forest, one, records, levels, size, depth, All}
+use Rattle.tree.specs.Tree.{Place, Tree, trees, forest, one, records, levels, size, depth, allHeads, All}
+use Rattle.tree.specs.Layout.{Version}
 use Rattle.tree.specs.Kind as kind
-use Rattle.tree.specs.Record.{symbolPair}
+use Rattle.tree.specs.Record.{symbolPair, endOk}
 use Rattle.tree.specs.Symbol.{neverSymbol, additionsAgree}
 use Rattle.tree.specs.Children.{wellFormed}
 use Rattle.tree.specs.File.{allEncodable}
@@ -89,20 +90,25 @@ module _ (s : Settings) (t : Tree) where
     pub at-most-one : length (reduce s t) ≤ 1
     at-most-one = single.at-most-one s t (accepted t well-formed)
 
-    -- What is kept is well-formed; its fields fit their bytes if the tree's do; and 02, N9, no addition with a string part records "yes"
-    -- if none of the tree's does.
+    -- What is kept is well-formed; its fields fit their bytes if the tree's do; 02, N9, no addition with a string part records "yes"
+    -- if none of the tree's does; and, N6, each place passes what all places of the tree pass.
     pub kept-well-formed : All (λ u. wellFormed u ≡ true) (reduce s t)
     kept-well-formed = kept.kept-well-formed s t well-formed
 
-    pub kept-encodable : allEncodable (one t) ≡ true → allEncodable (forest (reduce s t)) ≡ true
-    kept-encodable = kept.kept-encodable s t well-formed
+    pub kept-encodable : (v : Version) → allEncodable v (one t) ≡ true → allEncodable v (forest (reduce s t)) ≡ true
+    kept-encodable v = kept.kept-encodable v s t well-formed
 
     pub kept-agrees : additionsAgree (one t) ≡ true → additionsAgree (forest (reduce s t)) ≡ true
     kept-agrees = kept.kept-agrees s t well-formed
 
-  -- The kept answer of a permitted tree is permitted within limits of 2 × N − 1 records and one level more, "header settings copied".
-  pub kept-permitted : (limits : Limits) → Permitted limits (s .byte) t → (u : Tree) → reduce s t ≡ u ∷ [] → Permitted (keptLimits limits) (s .byte) u
-  kept-permitted limits p u e =
+    pub kept-places : (q : Place → Bool) → allHeads (λ h. q (h .place)) (one t) ≡ true → allHeads (λ h. q (h .place)) (forest (reduce s t)) ≡ true
+    kept-places q = kept.kept-places q s t well-formed
+
+  -- The kept answer of a permitted tree is permitted within limits of 2 × N − 1 records and one level more, "header settings copied",
+  -- in the same version.
+  pub kept-permitted : (limits : Limits) (v : Version) → Permitted limits v (s .byte) t → (u : Tree) → reduce s t ≡ u ∷ []
+      → Permitted (keptLimits limits) v (s .byte) u
+  kept-permitted limits v p u e =
       let records-le = rw e at at-most-twice in
       let levels-le = rw e at one-deeper in
       record {
@@ -110,13 +116,14 @@ module _ (s : Settings) (t : Tree) where
         well = (rw e at (kept-well-formed (p .well))) .0;
         is-taken = logicals-taken (one u);
         agrees = rw e at (kept-agrees (p .well) (p .agrees));
-        fits = rw e at (kept-encodable (p .well) (p .fits));
+        ends = rw e at (kept-places (p .well) endOk (p .ends));
+        fits = rw e at (kept-encodable (p .well) v (p .fits));
         few = omega (arith, records-le, p .few);
         low = omega (arith, levels-le, p .low);
       }
 
   -- So List effects accepts what Reduce keeps: 2,000 records and 64 levels become 3,999 and 65.
-  pub kept-within : Permitted reduceLimits (s .byte) t → (u : Tree) → reduce s t ≡ u ∷ [] → Permitted listEffectsLimits (s .byte) u
+  pub kept-within : (v : Version) → Permitted reduceLimits v (s .byte) t → (u : Tree) → reduce s t ≡ u ∷ [] → Permitted listEffectsLimits v (s .byte) u
   kept-within = kept-permitted reduceLimits
 
   -- 02, N9: "Reducing and listing now read "no" for these six, recorded or not", and every other node as it is recorded.

@@ -3,16 +3,18 @@ use mathlib.Core.Path.{_≡_}
 use mathlib.Core.List.{List}
 use Prim.Native.Nat.{ℕ, _+_, _-_, _<_, _≤_}
 use native.Mathlib.Omega.{arith}
+use lib.ListN.{length}
 use Rattle.tree.specs.Tree.{one}
+use Rattle.tree.specs.Layout.{headerBytes}
 use Rattle.tree.specs.Fields.{subtreeAt}
 use Rattle.tree.specs.Refusal.{listEffectsLimits, treeOf}
 use Rattle.tree.specs.Encoding.{Bytes}
-use Rattle.tree.specs.Accepted.{passed, counted-parts, counted-room, accepted}
+use Rattle.tree.specs.Accepted.{passed, counted-parts, counted-room, mark-long, accepted}
 use Rattle.tree.specs.Walk.{Held, held-within, held-after}
 use Rattle.file.specs.Answer.{stated, checked, checked-accepted}
 use Rattle.file.specs.declared.Checked.the-variants.{Accepted}
 
-pub file-held : (s : List ℕ) (settings n : ℕ) → stated (Accepted settings n) ≡ checked listEffectsLimits s → Bytes s → Held s 0 n × (n < 65536)
+pub file-held : (s : List ℕ) (settings n : ℕ) → stated (Accepted settings n) ≡ checked listEffectsLimits s → Bytes s → Held s 0 n × (n < 65536) × (headerBytes ≤ length s)
 file-held s settings n e bs =
     let v = checked-accepted listEffectsLimits s settings n e in
     let a = accepted listEffectsLimits s bs (v .0) in
@@ -22,7 +24,7 @@ file-held s settings n e bs =
       holds = record { stands = a .stands; sized = omega (arith, v .2, a .sized) };
       inside = omega (arith, v .2, counted-room k);
     } in
-    (held, omega (arith, v .2, k .few))
+    (held, omega (arith, v .2, k .few), mark-long s (passed listEffectsLimits s (v .0) .mark))
 
 -- Of a walk over `size` records, the trees from record p to record e are left.
 pub record Left (s : List ℕ) (size p e : ℕ) : Type 0 where

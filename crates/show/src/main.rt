@@ -1,6 +1,6 @@
 // Shows a tree file in words, a line a record.
 // docs/SHOW.md has the words. Of a file that List effects would refuse only `refused` and the number are printed.
-// Of standard input the first 63,993 bytes are read: one more than the longest file that is taken.
+// Of standard input the first 79,989 bytes are read: one more than the longest file that is taken.
 mod buffer;
 mod words;
 
@@ -12,7 +12,7 @@ ghost use Rattle.tree.specs.Room.{recordsIn};
 ghost use Rattle.tree.specs.Walk.{Held};
 
 fn main() {
-    let mut input = [0u8; 63993];
+    let mut input = [0u8; 79989];
     let n = io::read_full(STDIN_FILENO, &mut input);
     let mut out = [0u8; 65536];
     let used = print_file(&input[..n], &mut out);
@@ -33,19 +33,21 @@ fn print_file(src: &[u8], out: &mut Buffer) -> u16 {
             buffer::put(b"\n", out, used)
         }
         Checked::Accepted { settings, count } => {
-            let used = words::put_header(settings as usize, out, 0);
-            print_trees(src, 0, count, 0, out, used)
+            let ends = fields::has_ends(src);
+            let used = words::put_header(ends, settings as usize, out, 0);
+            print_trees(src, 0, count, 0, ends, out, used)
         }
     }
 }
 
 // Prints the trees that stand from record at on, in size records. It calls itself as deep as they are: siblings are walked by the
-// loop. What is required of the level keeps it within its bits.
+// loop. What is required of the level keeps it within its bits. `ends` says whether a record has an end.
 fn print_trees(
     src: &[u8],
     at: usize,
     size: usize,
     level: usize,
+    ends: bool,
     out: &mut Buffer,
     mut used: u16,
 ) -> u16
@@ -54,15 +56,22 @@ fn print_trees(
     let end = at + size;
     let mut p = at;
     while p < end {
-        used = print_record(src, p, level, out, used);
+        used = print_record(src, p, level, ends, out, used);
         let subtree = fields::subtree_at(src, p);
-        used = print_trees(src, p + 1, subtree - 1, level + 1, out, used);
+        used = print_trees(src, p + 1, subtree - 1, level + 1, ends, out, used);
         p += subtree;
     }
     used
 }
 
-fn print_record(src: &[u8], i: usize, level: usize, out: &mut Buffer, mut used: u16) -> u16
+fn print_record(
+    src: &[u8],
+    i: usize,
+    level: usize,
+    ends: bool,
+    out: &mut Buffer,
+    mut used: u16,
+) -> u16
     requires { ⌜ i + 1 ≤ recordsIn (now src) ⌝ }
 {
     let kind = fields::kind_at(src, i);
@@ -73,6 +82,9 @@ fn print_record(src: &[u8], i: usize, level: usize, out: &mut Buffer, mut used: 
     used = buffer::put_number(b" text ", fields::text_at(src, i) as u64, out, used);
     let place = fields::place_at(src, i);
     used = buffer::put_number(b" place ", place.start as u64, out, used);
+    if ends {
+        used = buffer::put_number(b"..", place.end as u64, out, used);
+    }
     buffer::put(b"\n", out, used)
 }
 

@@ -12,9 +12,13 @@ fn put_if(byte: usize, bit: usize, word: &[u8], out: &mut Buffer, used: u16) -> 
     }
 }
 
-// The first line. No other version is accepted.
-pub fn put_header(settings: usize, out: &mut Buffer, mut used: u16) -> u16 {
-    used = buffer::put(b"uxt 1", out, used);
+// The first line. A version whose records have an end is 2, and any other that is accepted 1.
+pub fn put_header(ends: bool, settings: usize, out: &mut Buffer, mut used: u16) -> u16 {
+    if ends {
+        used = buffer::put(b"uxt 2", out, used);
+    } else {
+        used = buffer::put(b"uxt 1", out, used);
+    }
     used = put_if(settings, 1, b" annotations", out, used);
     used = put_if(settings, 2, b" tree-shake-only", out, used);
     used = put_if(settings, 4, b" derived", out, used);

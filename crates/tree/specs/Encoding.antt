@@ -9,37 +9,51 @@ use native.Mathlib.Omega.{arith}
 use lib.Dec.{ltb}
 use lib.ListN.{length, getD, drop, length-append}
 use lib.Seq.{drop-cons, getD-drop, drop-drop, drop-at}
-use borrow.Author.Tests.{lt-ltb, ltb-true}
+use borrow.Author.Tests.{eq-eqb, eqb-true, lt-ltb, ltb-true}
 use Rattle.le.specs.Le.{u16At, u32At}
 use Rattle.tree.specs.Tree.{Place, Head, Forest, nil, node, Tree, All, one, count, records, size, allNodes}
 use Rattle.tree.specs.Below.{and-both, and-left, and-right}
-use Rattle.tree.specs.File.{Rec, preorder, le16, le32, placeBytes, recordBytes, bytes, fileBytes, placeFits, encodable, allEncodable}
+use Rattle.tree.specs.File.{Rec, preorder, le16, le32, placeBytes, recordBytes, bytes, versionNumber, fileBytes, endFits, placeFits, encodable, allEncodable}
 use Rattle.tree.specs.Offset as offset
-use Rattle.tree.specs.Layout.{width, span, start}
-use Rattle.tree.specs.Room.{recordsIn, start-first, start-span, record-inside}
-use Rattle.tree.specs.Fields.{placeFrom, headAt, childrenAt, subtreeAt}
+use Rattle.tree.specs.Layout.{Version, v1, v2, versionIn, width, span, start, startIn}
+use Rattle.tree.specs.Room.{recordsIn, fields-within, span-none, span-one, span-plus, start-plus, start-next, start-first, start-span, record-inside}
+use Rattle.tree.specs.Fields.{placeIn, placeFrom, headAt, childrenAt, subtreeAt}
 use Rattle.tree.specs.Stands.{Stands}
 
 -- Every element is a byte.
 pub record Bytes (s : List ℕ) : Type 0 where
   pub small : (k : ℕ) → getD s k 0 < 256
 
-bytes-append : (a b : List Rec) → bytes (a ++ b) ≡ bytes a ++ bytes b
+-- What goes before a list of bytes goes before it where it is a part of a longer one.
+record-append : (v : Version) (r : Rec) (a b : List ℕ) → recordBytes v r (a ++ b) ≡ recordBytes v r a ++ b
+record-append v1 r a b = refl
+record-append v2 r a b = refl
+
+bytes-append : (v : Version) (a b : List Rec) → bytes v (a ++ b) ≡ bytes v a ++ bytes v b
 unfolding bytes
-bytes-append [] b = refl
-bytes-append (r ∷ a) b = ap (recordBytes r) (bytes-append a b)
+bytes-append v [] b = refl
+bytes-append v (r ∷ a) b = ap (recordBytes v r) (bytes-append v a b) ∙ record-append v r (bytes v a) (bytes v b)
 
-length-bytes : (f : Forest) → length (bytes (preorder f)) ≡ span (records f)
-unfolding bytes preorder span width
-length-bytes nil = refl
-length-bytes (node h cs rest) =
-    omega (arith, ap length (bytes-append (preorder cs) (preorder rest)), length-append (bytes (preorder cs)) (bytes (preorder rest)), length-bytes cs, length-bytes rest)
+length-record : (v : Version) (r : Rec) (l : List ℕ) → length (recordBytes v r l) ≡ width v + length l
+unfolding width
+length-record v1 r l = omega arith
+length-record v2 r l = omega arith
 
-pub length-file : (settings : ℕ) (t : Tree) → length (fileBytes settings t) ≡ start (size t)
+length-bytes : (v : Version) (f : Forest) → length (bytes v (preorder f)) ≡ span v (records f)
+unfolding bytes preorder
+length-bytes v nil = sym (span-none v)
+length-bytes v (node h cs rest) =
+    let r : Rec = record { head = h; children = count cs; subtree = suc (records cs) } in
+    let n : suc (records cs + records rest) ≡ 1 + (records cs + records rest) = omega arith in
+    length-record v r (bytes v (preorder cs ++ preorder rest))
+    ∙ ap (width v +_) (ap length (bytes-append v (preorder cs) (preorder rest)) ∙ length-append (bytes v (preorder cs)) (bytes v (preorder rest)))
+    ∙ omega (arith, length-bytes v cs, length-bytes v rest, ap (span v) n, span-plus v 1 (records cs + records rest), span-plus v (records cs) (records rest), span-one v)
+
+pub length-file : (v : Version) (settings : ℕ) (t : Tree) → length (fileBytes v settings t) ≡ start v (size t)
 unfolding fileBytes
-length-file settings t =
+length-file v settings t =
     let n : records (one t) ≡ size t = omega arith in
-    omega (arith, length-bytes (one t), ap span n, start-span (size t), start-first)
+    omega (arith, length-bytes v (one t), ap (span v) n, start-span v (size t), start-first v)
 
 -- From where it stands to its encoding.
 pub drop-next : (s : List ℕ) (p q : ℕ) → p < length s → q ≡ p + 1 → drop p s ≡ getD s p 0 ∷ drop q s
@@ -73,16 +87,22 @@ module _ (s : List ℕ) (bs : Bytes s) where
       drop-u16 p (p + 2) (v % 65536) (omega arith) refl (omega (arith, u16-small p))
       ∙ ap (le16 (v % 65536)) (drop-u16 (p + 2) q (v / 65536) (omega arith) (omega arith) (omega (arith, u16-small p)))
 
-  drop-place : (p q : ℕ) → p + 4 ≤ length s → q ≡ p + 4 → drop p s ≡ placeBytes (placeFrom s p) (drop q s)
-  drop-place p q h e = drop-u32 p q (u32At s p) h e refl
+  -- The place of a record that starts at byte p.
+  drop-place : (v : Version) (p q : ℕ) → p + width v ≤ length s → q ≡ p + width v → drop (p + offset.place) s ≡ placeBytes v (placeFrom v s p) (drop q s)
+  unfolding width placeIn
+  drop-place v1 p q h e = drop-u32 (p + offset.place) q (u32At s (p + offset.place)) (omega arith) (omega arith) refl
+  drop-place v2 p q h e =
+      drop-u32 (p + offset.place) (p + offset.end) (u32At s (p + offset.place)) (omega arith) (omega arith) refl
+      ∙ ap (le32 (u32At s (p + offset.place))) (drop-u32 (p + offset.end) q (u32At s (p + offset.end)) (omega arith) (omega arith) refl)
 
   drop-record : (i : ℕ) (h : Head) (n z : ℕ) → i + 1 ≤ recordsIn s → headAt s i ≡ h → childrenAt s i ≡ n → subtreeAt s i ≡ z
-      → drop (start i) s ≡ recordBytes (record { head = h; children = n; subtree = z }) (drop (start (i + 1)) s)
-  unfolding start span width
+      → drop (startIn s i) s ≡ recordBytes (versionIn s) (record { head = h; children = n; subtree = z }) (drop (startIn s (i + 1)) s)
   drop-record i h n z l e a b =
-      let o : ℕ = start i in
-      let inside : o + width ≤ length s = record-inside (length s) i l in
-      subst (λ (x : Head). drop o s ≡ recordBytes (record { head = x; children = n; subtree = z }) (drop (start (i + 1)) s)) e
+      let v = versionIn s in
+      let o : ℕ = start v i in
+      let within = fields-within v in
+      let inside : o + width v ≤ length s = record-inside v (length s) i l in
+      subst (λ (x : Head). drop o s ≡ recordBytes v (record { head = x; children = n; subtree = z }) (drop (start v (i + 1)) s)) e
       (ap (λ (p : ℕ). drop p s) (sym (add-zero o))
       ∙ drop-next s (o + offset.kind) (o + offset.facts) (omega arith) (omega arith) ∙ ap (λ (r : List ℕ). headAt s i .kind ∷ r)
       (drop-next s (o + offset.facts) (o + offset.sub) (omega arith) (omega arith) ∙ ap (λ (r : List ℕ). headAt s i .facts ∷ r)
@@ -91,33 +111,48 @@ module _ (s : List ℕ) (bs : Bytes s) where
       (drop-u16 (o + offset.children) (o + offset.subtree) n (omega arith) (omega arith) a ∙ ap (le16 n)
       (drop-u16 (o + offset.subtree) (o + offset.text) z (omega arith) (omega arith) b ∙ ap (le16 z)
       (drop-u32 (o + offset.text) (o + offset.place) (headAt s i .text) (omega arith) (omega arith) refl ∙ ap (le32 (headAt s i .text))
-      (drop-place (o + offset.place) (start (i + 1)) (omega arith) (omega arith)))))))))
+      (drop-place v o (start v (i + 1)) inside (start-next v i)))))))))
 
   -- The bytes from where a list stands are its encoding, and then what follows it.
   pub bytes-stand : (f : Forest) (i j : ℕ) → Stands s i f → i + records f ≤ recordsIn s → j ≡ i + records f
-      → drop (start i) s ≡ bytes (preorder f) ++ drop (start j) s
+      → drop (startIn s i) s ≡ bytes (versionIn s) (preorder f) ++ drop (startIn s j) s
   unfolding bytes preorder
-  bytes-stand nil i j d l e = let x : i ≡ j = omega arith in ap (λ (k : ℕ). drop (start k) s) x
+  bytes-stand nil i j d l e = let x : i ≡ j = omega arith in ap (λ (k : ℕ). drop (startIn s k) s) x
   bytes-stand (node h cs rest) i j d l e =
+      let v = versionIn s in
+      let r : Rec = record { head = h; children = count cs; subtree = suc (records cs) } in
       drop-record i h (count cs) (suc (records cs)) (omega arith) (d .0) (d .1) (d .2)
-      ∙ ap (recordBytes (record { head = h; children = count cs; subtree = suc (records cs) }))
+      ∙ ap (recordBytes v r)
       (bytes-stand cs (i + 1) (i + suc (records cs)) (d .3) (omega arith) (omega arith)
-      ∙ ap (λ (r : List ℕ). bytes (preorder cs) ++ r) (bytes-stand rest (i + suc (records cs)) j (d .4) (omega arith) (omega arith))
-      ∙ sym (append-assoc (bytes (preorder cs)) (bytes (preorder rest)) (drop (start j) s))
-      ∙ ap (λ (r : List ℕ). r ++ drop (start j) s) (sym (bytes-append (preorder cs) (preorder rest))))
+      ∙ ap (λ (r : List ℕ). bytes v (preorder cs) ++ r) (bytes-stand rest (i + suc (records cs)) j (d .4) (omega arith) (omega arith))
+      ∙ sym (append-assoc (bytes v (preorder cs)) (bytes v (preorder rest)) (drop (start v j) s))
+      ∙ ap (λ (r : List ℕ). r ++ drop (start v j) s) (sym (bytes-append v (preorder cs) (preorder rest))))
+      ∙ record-append v r (bytes v (preorder cs ++ preorder rest)) (drop (start v j) s)
+
+  place-read : (v : Version) (p : ℕ) → placeFits v (placeFrom v s p) ≡ true
+  unfolding placeFits endFits placeIn
+  place-read v1 p = and-both (lt-ltb _ (2 ^ 32) (u32-small (p + offset.place))) (eq-eqb (u32At s (p + offset.place)) (u32At s (p + offset.place)) refl)
+  place-read v2 p = and-both (lt-ltb _ (2 ^ 32) (u32-small (p + offset.place))) (lt-ltb _ (2 ^ 32) (u32-small (p + offset.end)))
 
   -- The heads of what stands in bytes fit their bytes.
-  pub encodable-stand : (f : Forest) (i : ℕ) → Stands s i f → allEncodable f ≡ true
-  unfolding allNodes encodable placeFits
+  pub encodable-stand : (f : Forest) (i : ℕ) → Stands s i f → allEncodable (versionIn s) f ≡ true
+  unfolding allNodes encodable
   encodable-stand nil i d = refl
   encodable-stand (node h cs rest) i d =
-      and-both (subst (λ (x : Head). encodable x ≡ true) (d .0)
+      and-both (subst (λ (x : Head). encodable (versionIn s) x ≡ true) (d .0)
       (and-both (and-both (small offset.kind) (and-both (small offset.facts) (and-both (small offset.sub) (small offset.reserved))))
-      (and-both (lt-ltb _ (2 ^ 32) (u32-small (start i + offset.text))) (lt-ltb _ (2 ^ 32) (u32-small (start i + offset.place))))))
+      (and-both (lt-ltb _ (2 ^ 32) (u32-small (startIn s i + offset.text))) (place-read (versionIn s) (startIn s i)))))
       (and-both (encodable-stand cs (i + 1) (d .3)) (encodable-stand rest (i + suc (records cs)) (d .4)))
     where
-      small : (k : ℕ) → ltb (getD s (start i + k) 0) 256 ≡ true
-      small k = lt-ltb (getD s (start i + k) 0) 256 (bs .small (start i + k))
+      small : (k : ℕ) → ltb (getD s (startIn s i + k) 0) 256 ≡ true
+      small k = lt-ltb (getD s (startIn s i + k) 0) 256 (bs .small (startIn s i + k))
+
+-- A place that was given to a head fits the bytes of another.
+pub place-fits : (v : Version) (h : Head) → encodable v h ≡ true → placeFits v (h .place) ≡ true
+unfolding encodable
+place-fits v h e =
+    and-right (ltb (h .text) (2 ^ 32)) (placeFits v (h .place))
+    (and-right (ltb (h .kind) 256 && (ltb (h .facts) 256 && (ltb (h .sub) 256 && ltb (h .reserved) 256))) (ltb (h .text) (2 ^ 32) && placeFits v (h .place)) e)
 
 -- From its encoding to where it stands.
 at-drop : (s : List ℕ) (b j : ℕ) (l : List ℕ) → drop b s ≡ l → getD s (b + j) 0 ≡ getD l j 0
@@ -135,47 +170,73 @@ u32-drop s b j l e =
     let x : b + j + 2 ≡ b + (j + 2) = omega arith in
     rw (x, u16-drop s b j l e, u16-drop s b (j + 2) l e)
 
+-- A place is read back, if it is one that a record of its version can say.
+read-place : (v : Version) (s : List ℕ) (b : ℕ) (r : Rec) (l : List ℕ) → drop b s ≡ recordBytes v r l → placeFits v (r .head .place) ≡ true → placeFrom v s b ≡ r .head .place
+unfolding u16At u32At placeIn placeFits endFits
+read-place v1 s b r l e f =
+    let p : u32At s (b + offset.place) ≡ r .head .place .start = u32-drop s b offset.place (recordBytes v1 r l) e ∙ omega arith in
+    let q : r .head .place .end ≡ r .head .place .start =
+    eqb-true (r .head .place .end) (r .head .place .start) (and-right (ltb (r .head .place .start) (2 ^ 32)) (endFits v1 (r .head .place)) f) in
+    let z : u32At s (b + offset.place) ≡ r .head .place .end = p ∙ sym q in
+    λ m. record { start = p m; end = z m }
+read-place v2 s b r l e f =
+    let p : u32At s (b + offset.place) ≡ r .head .place .start = u32-drop s b offset.place (recordBytes v2 r l) e ∙ omega arith in
+    let z : u32At s (b + offset.end) ≡ r .head .place .end = u32-drop s b offset.end (recordBytes v2 r l) e ∙ omega arith in
+    λ m. record { start = p m; end = z m }
+
 module _ (s : List ℕ) where
-  read-head : (i : ℕ) (r : Rec) (l : List ℕ) → drop (start i) s ≡ recordBytes r l → headAt s i ≡ r .head
+  read-head : (v : Version) → versionIn s ≡ v → (i : ℕ) (r : Rec) (l : List ℕ) → drop (start v i) s ≡ recordBytes v r l → placeFits v (r .head .place) ≡ true → headAt s i ≡ r .head
   unfolding u16At u32At
-  read-head i r l e =
-      let b : ℕ = start i in
-      let t : u32At s (b + offset.text) ≡ r .head .text = u32-drop s b offset.text (recordBytes r l) e ∙ omega arith in
-      let p : u32At s (b + offset.place) ≡ r .head .place .start = u32-drop s b offset.place (recordBytes r l) e ∙ omega arith in
-      λ m. record {
-        kind = at-drop s b offset.kind (recordBytes r l) e m;
-        facts = at-drop s b offset.facts (recordBytes r l) e m;
-        sub = at-drop s b offset.sub (recordBytes r l) e m;
-        reserved = at-drop s b offset.reserved (recordBytes r l) e m;
+  read-head v w i r l e f =
+      let b : ℕ = start v i in
+      let t : u32At s (b + offset.text) ≡ r .head .text = u32-drop s b offset.text (recordBytes v r l) e ∙ omega arith in
+      rw w (λ m. record {
+        kind = at-drop s b offset.kind (recordBytes v r l) e m;
+        facts = at-drop s b offset.facts (recordBytes v r l) e m;
+        sub = at-drop s b offset.sub (recordBytes v r l) e m;
+        reserved = at-drop s b offset.reserved (recordBytes v r l) e m;
         text = t m;
-        place = record { start = p m };
-      }
+        place = read-place v s b r l e f m;
+      })
 
-  read-children : (i : ℕ) (r : Rec) (l : List ℕ) → drop (start i) s ≡ recordBytes r l → childrenAt s i ≡ r .children
+  read-children : (v : Version) → versionIn s ≡ v → (i : ℕ) (r : Rec) (l : List ℕ) → drop (start v i) s ≡ recordBytes v r l → childrenAt s i ≡ r .children
   unfolding u16At
-  read-children i r l e = u16-drop s (start i) offset.children (recordBytes r l) e ∙ omega arith
+  read-children v w i r l e = rw w (u16-drop s (start v i) offset.children (recordBytes v r l) e ∙ omega arith)
 
-  read-subtree : (i : ℕ) (r : Rec) (l : List ℕ) → drop (start i) s ≡ recordBytes r l → subtreeAt s i ≡ r .subtree
+  read-subtree : (v : Version) → versionIn s ≡ v → (i : ℕ) (r : Rec) (l : List ℕ) → drop (start v i) s ≡ recordBytes v r l → subtreeAt s i ≡ r .subtree
   unfolding u16At
-  read-subtree i r l e = u16-drop s (start i) offset.subtree (recordBytes r l) e ∙ omega arith
+  read-subtree v w i r l e = rw w (u16-drop s (start v i) offset.subtree (recordBytes v r l) e ∙ omega arith)
 
-  pub stand-bytes : (f : Forest) (i : ℕ) (l : List ℕ) → drop (start i) s ≡ bytes (preorder f) ++ l → Stands s i f
-  unfolding bytes preorder start span width
-  stand-bytes nil i l e = tt
-  stand-bytes (node h cs rest) i l e =
+  drop-width : (v : Version) (r : Rec) (l : List ℕ) → drop (width v) (recordBytes v r l) ≡ l
+  unfolding width
+  drop-width v1 r l = refl
+  drop-width v2 r l = refl
+
+  pub stand-bytes : (v : Version) → versionIn s ≡ v → (f : Forest) → allEncodable v f ≡ true → (i : ℕ) (l : List ℕ) → drop (start v i) s ≡ bytes v (preorder f) ++ l → Stands s i f
+  unfolding bytes preorder allNodes
+  stand-bytes v w nil o i l e = tt
+  stand-bytes v w (node h cs rest) o i l e =
       let r : Rec = record { head = h; children = count cs; subtree = suc (records cs) } in
-      let under : bytes (preorder cs ++ preorder rest) ++ l ≡ bytes (preorder cs) ++ (bytes (preorder rest) ++ l) =
-      rw (bytes-append (preorder cs) (preorder rest)) (append-assoc (bytes (preorder cs)) (bytes (preorder rest)) l) in
-      let next : drop (start (i + 1)) s ≡ bytes (preorder cs) ++ (bytes (preorder rest) ++ l) =
-      (let x : start (i + 1) ≡ start i + 16 = omega arith in rw x (sym (drop-drop 16 (start i) s) ∙ ap (drop 16) e ∙ under)) in
-      let after : drop (start (i + suc (records cs))) s ≡ bytes (preorder rest) ++ l =
-      (let x : start (i + suc (records cs)) ≡ start (i + 1) + span (records cs) = omega arith in
-      rw x (sym (drop-drop (span (records cs)) (start (i + 1)) s) ∙ ap (drop (span (records cs))) next ∙ drop-at (bytes (preorder cs)) (bytes (preorder rest) ++ l) (span (records cs)) (length-bytes cs))) in (
-        read-head i r (bytes (preorder cs ++ preorder rest) ++ l) e,
-        read-children i r (bytes (preorder cs ++ preorder rest) ++ l) e,
-        read-subtree i r (bytes (preorder cs ++ preorder rest) ++ l) e,
-        stand-bytes cs (i + 1) (bytes (preorder rest) ++ l) next,
-        stand-bytes rest (i + suc (records cs)) l after,
+      let below = and-right (encodable v h) (allEncodable v cs && allEncodable v rest) o in
+      let fits = place-fits v h (and-left (encodable v h) (allEncodable v cs && allEncodable v rest) o) in
+      let here : drop (start v i) s ≡ recordBytes v r (bytes v (preorder cs ++ preorder rest) ++ l) = e ∙ sym (record-append v r (bytes v (preorder cs ++ preorder rest)) l) in
+      let under : bytes v (preorder cs ++ preorder rest) ++ l ≡ bytes v (preorder cs) ++ (bytes v (preorder rest) ++ l) =
+      rw (bytes-append v (preorder cs) (preorder rest)) (append-assoc (bytes v (preorder cs)) (bytes v (preorder rest)) l) in
+      let next : drop (start v (i + 1)) s ≡ bytes v (preorder cs) ++ (bytes v (preorder rest) ++ l) =
+      rw (start-next v i)
+      (sym (drop-drop (width v) (start v i) s) ∙ ap (drop (width v)) here ∙ drop-width v r (bytes v (preorder cs ++ preorder rest) ++ l) ∙ under) in
+      let after : drop (start v (i + suc (records cs))) s ≡ bytes v (preorder rest) ++ l =
+      (let n : i + suc (records cs) ≡ i + 1 + records cs = omega arith in
+      let x : start v (i + suc (records cs)) ≡ start v (i + 1) + span v (records cs) = ap (start v) n ∙ start-plus v (i + 1) (records cs) in
+      rw x
+      (sym (drop-drop (span v (records cs)) (start v (i + 1)) s)
+      ∙ ap (drop (span v (records cs))) next
+      ∙ drop-at (bytes v (preorder cs)) (bytes v (preorder rest) ++ l) (span v (records cs)) (length-bytes v cs))) in (
+        read-head v w i r (bytes v (preorder cs ++ preorder rest) ++ l) here fits,
+        read-children v w i r (bytes v (preorder cs ++ preorder rest) ++ l) here,
+        read-subtree v w i r (bytes v (preorder cs ++ preorder rest) ++ l) here,
+        stand-bytes v w cs (and-left (allEncodable v cs) (allEncodable v rest) below) (i + 1) (bytes v (preorder rest) ++ l) next,
+        stand-bytes v w rest (and-right (allEncodable v cs) (allEncodable v rest) below) (i + suc (records cs)) l after,
       )
 
 -- The encoding of what fits its bytes is a list of bytes.
@@ -197,27 +258,23 @@ small-le16 n l h p = (omega arith, (omega arith, p))
 small-le32 : (n : ℕ) (l : List ℕ) → n < 2 ^ 32 → Small l → Small (le32 n l)
 small-le32 n l h p = small-le16 (n % 65536) (le16 (n / 65536) l) (omega arith) (small-le16 (n / 65536) l (omega arith) p)
 
-small-place : (p : Place) (l : List ℕ) → placeFits p ≡ true → Small l → Small (placeBytes p l)
-unfolding placeFits
-small-place p l f q = small-le32 (p .start) l (ltb-true (p .start) (2 ^ 32) f) q
+small-place : (v : Version) (p : Place) (l : List ℕ) → placeFits v p ≡ true → Small l → Small (placeBytes v p l)
+unfolding placeFits endFits
+small-place v1 p l f q = small-le32 (p .start) l (ltb-true (p .start) (2 ^ 32) (and-left (ltb (p .start) (2 ^ 32)) (endFits v1 p) f)) q
+small-place v2 p l f q =
+    small-le32 (p .start) (le32 (p .end) l) (ltb-true (p .start) (2 ^ 32) (and-left (ltb (p .start) (2 ^ 32)) (endFits v2 p) f))
+    (small-le32 (p .end) l (ltb-true (p .end) (2 ^ 32) (and-right (ltb (p .start) (2 ^ 32)) (endFits v2 p) f)) q)
 
--- A place that was given to a head fits the bytes of another.
-pub place-fits : (h : Head) → encodable h ≡ true → placeFits (h .place) ≡ true
+small-record : (v : Version) (r : Rec) (l : List ℕ) → encodable v (r .head) ≡ true → r .children < 65536 → r .subtree < 65536 → Small l → Small (recordBytes v r l)
 unfolding encodable
-place-fits h e =
-    and-right (ltb (h .text) (2 ^ 32)) (placeFits (h .place))
-    (and-right (ltb (h .kind) 256 && (ltb (h .facts) 256 && (ltb (h .sub) 256 && ltb (h .reserved) 256))) (ltb (h .text) (2 ^ 32) && placeFits (h .place)) e)
-
-small-record : (r : Rec) (l : List ℕ) → encodable (r .head) ≡ true → r .children < 65536 → r .subtree < 65536 → Small l → Small (recordBytes r l)
-unfolding encodable
-small-record r l e c z p =
+small-record v r l e c z p =
     let h = r .head in
     let k = ltb (h .kind) 256 in
     let f = ltb (h .facts) 256 in
     let b = ltb (h .sub) 256 in
     let d = ltb (h .reserved) 256 in
     let t = ltb (h .text) (2 ^ 32) in
-    let q = placeFits (h .place) in
+    let q = placeFits v (h .place) in
     let low = and-left (k && (f && (b && d))) (t && q) e in
     let high = and-right (k && (f && (b && d))) (t && q) e in
     let low′ = and-right k (f && (b && d)) low in
@@ -229,10 +286,10 @@ small-record r l e c z p =
           ltb-true (h .sub) 256 (and-left b d low″),
           (
             ltb-true (h .reserved) 256 (and-right b d low″),
-            small-le16 (r .children) (le16 (r .subtree) (le32 (h .text) (placeBytes (h .place) l))) c
-                (small-le16 (r .subtree) (le32 (h .text) (placeBytes (h .place) l)) z
-                (small-le32 (h .text) (placeBytes (h .place) l) (ltb-true (h .text) (2 ^ 32) (and-left t q high))
-                (small-place (h .place) l (place-fits h e) p))),
+            small-le16 (r .children) (le16 (r .subtree) (le32 (h .text) (placeBytes v (h .place) l))) c
+                (small-le16 (r .subtree) (le32 (h .text) (placeBytes v (h .place) l)) z
+                (small-le32 (h .text) (placeBytes v (h .place) l) (ltb-true (h .text) (2 ^ 32) (and-left t q high))
+                (small-place v (h .place) l (place-fits v h e) p))),
           ),
         ),
       ),
@@ -242,20 +299,32 @@ count-records : (f : Forest) → count f ≤ records f
 count-records nil = omega arith
 count-records (node h cs rest) = omega (arith, count-records rest)
 
-small-forest : (f : Forest) → allEncodable f ≡ true → records f < 65536 → Small (bytes (preorder f))
+small-forest : (v : Version) (f : Forest) → allEncodable v f ≡ true → records f < 65536 → Small (bytes v (preorder f))
 unfolding allNodes bytes preorder
-small-forest nil e l = tt
-small-forest (node h cs rest) e l =
-    let under = and-right (encodable h) (allEncodable cs && allEncodable rest) e in
-    let a = small-forest cs (and-left (allEncodable cs) (allEncodable rest) under) (omega arith) in
-    let b = small-forest rest (and-right (allEncodable cs) (allEncodable rest) under) (omega arith) in
-    small-record (record { head = h; children = count cs; subtree = suc (records cs) }) (bytes (preorder cs ++ preorder rest))
-    (and-left (encodable h) (allEncodable cs && allEncodable rest) e) (omega (arith, count-records cs)) (omega arith)
-    (rw (bytes-append (preorder cs) (preorder rest)) (small-append (bytes (preorder cs)) (bytes (preorder rest)) a b))
+small-forest v nil e l = tt
+small-forest v (node h cs rest) e l =
+    let under = and-right (encodable v h) (allEncodable v cs && allEncodable v rest) e in
+    let a = small-forest v cs (and-left (allEncodable v cs) (allEncodable v rest) under) (omega arith) in
+    let b = small-forest v rest (and-right (allEncodable v cs) (allEncodable v rest) under) (omega arith) in
+    small-record v (record { head = h; children = count cs; subtree = suc (records cs) }) (bytes v (preorder cs ++ preorder rest))
+    (and-left (encodable v h) (allEncodable v cs && allEncodable v rest) e) (omega (arith, count-records cs)) (omega arith)
+    (rw (bytes-append v (preorder cs) (preorder rest)) (small-append (bytes v (preorder cs)) (bytes v (preorder rest)) a b))
 
-pub file-bytes : (settings : ℕ) (t : Tree) → settings < 256 → allEncodable (one t) ≡ true → size t < 65536 → Bytes (fileBytes settings t)
+version-small : (v : Version) → versionNumber v < 65536
+version-small v1 = omega arith
+version-small v2 = omega arith
+
+pub file-bytes : (v : Version) (settings : ℕ) (t : Tree) → settings < 256 → allEncodable v (one t) ≡ true → size t < 65536 → Bytes (fileBytes v settings t)
 unfolding fileBytes
-file-bytes settings t s e l = record {
-  small = small-bytes (fileBytes settings t)
-      (omega arith, (omega arith, (omega arith, (omega arith, (omega arith, (s, small-le16 (size t) (bytes (preorder (one t))) l (small-forest (one t) e (omega arith))))))));
+file-bytes v settings t s e l = record {
+  small = small-bytes (fileBytes v settings t) (
+    omega arith,
+    (
+      omega arith,
+      (
+        omega arith,
+        small-le16 (versionNumber v) (settings ∷ le16 (size t) (bytes v (preorder (one t)))) (version-small v) (s, small-le16 (size t) (bytes v (preorder (one t))) l (small-forest v (one t) e (omega arith))),
+      ),
+    ),
+  );
 }

@@ -1,8 +1,8 @@
--- Refusals 5 and 6: what a record may say by itself.
+-- Refusals 5, 6 and 17: what a record may say by itself.
 use mathlib.Core.Bool.{Bool, cond, not, _&&_, _||_}
 use Prim.Native.Nat.{ℕ, _/_, _%_, _^_}
 use lib.Dec.{eqb, leb}
-use Rattle.tree.specs.Tree.{Head}
+use Rattle.tree.specs.Tree.{Place, Head}
 use Rattle.tree.specs.Below.{allBelow}
 use Rattle.tree.specs.Kind as kind
 
@@ -104,3 +104,7 @@ logicalTaken logicals h = logicals || not (eqb (h .kind) kind.logical)
 
 abbrev pub taken : Bool → Head → Bool
 taken logicals h = included h && logicalTaken logicals h
+
+-- 02, N6: "17 when an end lies before its start"
+unfoldable pub endOk : Place → Bool
+endOk p = leb (p .start) (p .end)

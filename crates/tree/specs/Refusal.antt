@@ -1,15 +1,16 @@
--- Refusals 1 to 8 of a list of bytes, in 01's order: each number is tested over all records before the next. 02, N9, tests 5 again after 7.
-use mathlib.Core.Bool.{Bool, true, false, cond, _&&_}
+-- Refusals 1 to 8 and 17 of a list of bytes, in 01's order: each number is tested over all records before the next. 02, N9, tests 5
+-- again after 7, and N6 tests 17 behind it.
+use mathlib.Core.Bool.{Bool, true, false, cond, _&&_, _||_}
 use mathlib.Core.List.{List}
 use Prim.Native.Nat.{ℕ, zero, suc, _+_}
 use lib.Dec.{eqb, leb, ltb}
 use lib.ListN.{length, getD}
 use Rattle.tree.specs.Tree.{Head, Forest, nil, node, Tree, one, depth}
 use Rattle.tree.specs.Below.{allBelow}
-use Rattle.tree.specs.Record.{recordOk, taken}
+use Rattle.tree.specs.Record.{recordOk, taken, endOk}
 use Rattle.tree.specs.Symbol.{additionsAgree}
 use Rattle.tree.specs.Children.{childCountOk, mayStand}
-use Rattle.tree.specs.Layout.{start}
+use Rattle.tree.specs.Layout.{Version, v1, v2, startIn}
 use Rattle.tree.specs.Fields.{versionOf, settingsOf, countOf, headAt, childrenAt, subtreeAt}
 use Rattle.tree.specs.Kind as kind
 
@@ -27,21 +28,27 @@ reduceLimits = record { records = 2000; depth = 64; logicals = false }
 abbrev pub listEffectsLimits : Limits
 listEffectsLimits = record { records = 3999; depth = 65; logicals = true }
 
+-- 02, N6: "The two-column and batch programs take 1,500 records of version 2 and refuse more as a wrong count; the library stays at 2,000."
+abbrev pub programLimits : Version → Limits
+programLimits v1 = reduceLimits
+programLimits v2 = record { records = 1500; depth = 64; logicals = false }
+
 -- "1 under 8 bytes or mark wrong"
 unfoldable pub markOk : List ℕ → Bool
 markOk s = leb 8 (length s) && (eqb (getD s 0 0) 85 && (eqb (getD s 1 0) 88 && eqb (getD s 2 0) 84))
 
--- "2 version"
+-- "2 version": 1, and with 02, N6, 2
 unfoldable pub versionOk : List ℕ → Bool
-versionOk s = eqb (versionOf s) 1
+versionOk s = eqb (versionOf s) 1 || eqb (versionOf s) 2
 
 -- "3 setting bits 3–7": a byte is under 8 exactly if none of these is set, since bit 3 counts 8
 unfoldable pub settingsOk : List ℕ → Bool
 settingsOk s = ltb (settingsOf s) 8
 
--- "4 count not 1–2,000, or length not 8 + 16 × N", which is where record N would start; 2,000 is Reduce's limit
+-- "4 count not 1–2,000, or length not 8 + 16 × N", which is where record N would start; 2,000 is Reduce's limit. 02, N6: "Each length
+-- formula uses 20 for 16 in version 2."
 unfoldable pub countOk : ℕ → List ℕ → Bool
-countOk maxRecords s = (leb 1 (countOf s) && leb (countOf s) maxRecords) && eqb (length s) (start (countOf s))
+countOk maxRecords s = (leb 1 (countOf s) && leb (countOf s) maxRecords) && eqb (length s) (startIn s (countOf s))
 
 -- "5 kind, facts, sub or byte 3"
 unfoldable pub recordsOk : List ℕ → Bool
@@ -86,6 +93,10 @@ treeOf s = record { head = headAt s 0; kids = decode (countOf s) s 1 (countOf s)
 unfoldable pub additionsOk : List ℕ → Bool
 additionsOk s = additionsAgree (one (treeOf s))
 
+-- 02, N6: "17 when an end lies before its start, tested after the tree's shape and before its depth"
+unfoldable pub endsOk : List ℕ → Bool
+endsOk s = allBelow (λ i. endOk (headAt s i .place)) (countOf s)
+
 -- "8 depth over 64 (root 1)"; 64 is Reduce's limit
 unfoldable pub depthOk : ℕ → List ℕ → Bool
 depthOk maxDepth s = leb (depth (treeOf s)) maxDepth
@@ -104,4 +115,5 @@ refusal limits s =
     (unless (allTaken (limits .logicals) s) 6
     (unless (shapeOk s) 7
     (unless (additionsOk s) 5
-    (unless (depthOk (limits .depth) s) 8 0))))))))
+    (unless (endsOk s) 17
+    (unless (depthOk (limits .depth) s) 8 0)))))))))

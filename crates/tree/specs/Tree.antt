@@ -4,9 +4,11 @@ use mathlib.Core.Bool.{Bool, true, _&&_}
 use mathlib.Core.List.{List, [], _∷_, map}
 use Prim.Native.Nat.{ℕ, suc, _+_, max}
 
--- What a made node copies from the node that gives it its place: "place is the span's start".
+-- What a made node copies from the node that gives it its place: "place is the span's start"; 02, N6: "every made node copies both ends
+-- from the node that gave it its place". No rule looks into it, but that effects "still carry the start".
 pub record Place : Type 0 where
   pub start : ℕ
+  pub end : ℕ
 
 -- What a record says of its node, but for "children" and "records in the subtree with itself", which the tree itself says.
 pub record Head : Type 0 where

@@ -7,7 +7,8 @@ use Rattle.text.specs.Ascii.{ascii}
 use Rattle.text.specs.Decimal.{decimal}
 use Rattle.tree.specs.Tree.{forest, records}
 use Rattle.tree.specs.Fields.{countOf}
-use Rattle.tree.specs.Refusal.{reduceLimits, refusal}
+use Rattle.tree.specs.Layout.{versionIn}
+use Rattle.tree.specs.Refusal.{programLimits, refusal}
 use Rattle.effects.specs.Answer.{effectList}
 use Rattle.reducer.specs.Answer.{left, answerList}
 
@@ -51,9 +52,9 @@ abbrev pub columnsBy : ℕ → List ℕ → List ℕ
 columnsBy zero s = table s
 columnsBy (suc k) s = refusedLine (suc k)
 
--- What is printed of a file: a refusal is Reduce's, with as much lent as it may need.
+-- What is printed of a file: a refusal is Reduce's, with as much lent as it may need, but that fewer records of version 2 are taken.
 unfoldable pub columns : List ℕ → List ℕ
-columns s = columnsBy (refusal reduceLimits s) s
+columns s = columnsBy (refusal (programLimits (versionIn s)) s) s
 
 -- The bytes of the text, from the first on, and no other byte has changed.
 pub record Printed (s old new : List ℕ) (r : ℕ) : Type 0 where

@@ -12,13 +12,15 @@ use Rattle.stated.specs.Stated.{Stated}
 use Rattle.stated.specs.Wrote.{Wrote}
 use Rattle.tree.specs.Tree.{Tree}
 use Rattle.tree.specs.Fields.{countOf}
-use Rattle.tree.specs.Refusal.{reduceLimits, refusal}
+use Rattle.tree.specs.Layout.{versionIn}
+use Rattle.tree.specs.Refusal.{reduceLimits, programLimits, refusal}
 use Rattle.tree.specs.Accepted.{passed, counted-parts}
 use Rattle.reducer.specs.Answer.{leastOutput, mostOutput, most-enough, Case, refusedBy, answered, stated, caseOf, number, numberBy, left, rewritten, statedOf, bytesOf, Promised, Answers}
 use Rattle.reducer.specs.declared.Reduced.{Reduced}
 use Rattle.reducer.specs.declared.Reduced.the-variants.{Refused, Removable, Kept}
 use Rattle.two_columns.specs.Columns.{columns, columnsBy, table, refusedLine, Printed}
 use Rattle.two_columns.specs.Kept.{GivenTable}
+use Rattle.two_columns.specs.Limit.{tooMany, within}
 use Rattle.two_columns.specs.Table.{set-front}
 
 pub lent : length (replicate {A = ℕ} mostOutput 0) ≡ mostOutput
@@ -29,10 +31,10 @@ number-is : (s : List ℕ) → number s mostOutput ≡ refusal reduceLimits s
 unfolding number
 number-is s = go (refusal reduceLimits s) refl
   where
-    go : (k : ℕ) → refusal reduceLimits s ≡ k → numberBy k (ltb mostOutput (leastOutput (countOf s))) ≡ k
+    go : (k : ℕ) → refusal reduceLimits s ≡ k → numberBy k (ltb mostOutput (leastOutput (versionIn s) (countOf s))) ≡ k
     go zero e =
-        let enough : ltb mostOutput (leastOutput (countOf s)) ≡ false =
-        le-ltb mostOutput (leastOutput (countOf s)) (most-enough (countOf s) (counted-parts 2000 s (passed reduceLimits s e .counted) .few)) in
+        let enough : ltb mostOutput (leastOutput (versionIn s) (countOf s)) ≡ false =
+        le-ltb mostOutput (leastOutput (versionIn s) (countOf s)) (most-enough (versionIn s) (countOf s) (counted-parts 2000 s (passed reduceLimits s e .counted) .few)) in
         rw enough refl
     go (suc k) e = refl
 
@@ -53,7 +55,21 @@ unfolding isRefused
 none-refused [] x = true≢false x
 none-refused (t ∷ ts) x = true≢false x
 
-module _ {s old new : List ℕ} {reduced : Reduced} (room : length old ≡ mostOutput) (a : Answers s old new reduced) where
+-- A file of version 2 that counts too many records.
+pub printed-many : {s lent text : List ℕ} {n r : ℕ} → (n ≡ refusal (programLimits (versionIn s)) s) × (n ≡ 0 → ⊥) → Wrote lent text 0 r (refusedLine n) × (r ≤ length lent) → Printed s lent text r
+unfolding columns
+printed-many {s} {n = n} e w = printed s (go n (e .1) ∙ ap (λ (k : ℕ). columnsBy k s) (e .0)) w
+  where
+    go : (k : ℕ) → (k ≡ 0 → ⊥) → refusedLine k ≡ columnsBy k s
+    go zero z = absurd (z refl)
+    go (suc k) z = refl
+
+-- Any other file.
+module _ {s old new : List ℕ} {reduced : Reduced} (few : tooMany s ≡ false) (room : length old ≡ mostOutput) (a : Answers s old new reduced) where
+  columns-is : columnsBy (refusal reduceLimits s) s ≡ columns s
+  unfolding columns
+  columns-is = sym (ap (λ (k : ℕ). columnsBy k s) (within s few))
+
   number-zero : number s (length old) ≡ refusal reduceLimits s
   number-zero = ap (number s) room ∙ number-is s
 
@@ -75,8 +91,7 @@ module _ {s old new : List ℕ} {reduced : Reduced} (room : length old ≡ mostO
       ap (λ (y : Stated Case). getD (y .values) 0 0) x
 
   pub printed-table : {c : Case} {n : ℕ} {lent text : List ℕ} {r : ℕ} → stated reduced ≡ answered c n → Wrote lent text 0 r (table s) × (r ≤ length lent) → Printed s lent text r
-  unfolding columns
-  printed-table e w = printed s (sym (ap (λ (k : ℕ). columnsBy k s) (is-accepted e))) w
+  printed-table e w = printed s (sym (ap (λ (k : ℕ). columnsBy k s) (is-accepted e)) ∙ columns-is) w
 
   promised-is : refusal reduceLimits s ≡ 0 → Promised s
   promised-is z = a .promised (number-zero ∙ z)
@@ -105,8 +120,8 @@ module _ {s old new : List ℕ} {reduced : Reduced} (room : length old ≡ mostO
         }
 
   pub printed-refusal : {n : ℕ} {lent text : List ℕ} {r : ℕ} → reduced ≡ Refused n → Wrote lent text 0 r (refusedLine n) × (r ≤ length lent) → Printed s lent text r
-  unfolding columns isRefused
-  printed-refusal {n} e w = printed s (go (refusal reduceLimits s) (ap stated (sym e) ∙ answer)) w
+  unfolding isRefused
+  printed-refusal {n} e w = printed s (go (refusal reduceLimits s) (ap stated (sym e) ∙ answer) ∙ columns-is) w
     where
       go : (k : ℕ) → refusedBy n ≡ statedOf k s → refusedLine n ≡ columnsBy k s
       go zero x = absurd (none-refused (left s) (ap (λ (y : Stated Case). isRefused (y .case)) x))

@@ -1,4 +1,5 @@
 // The two columns of a tree file: its effects before and after Reduce, side by side, as text.
+mod limit;
 mod line;
 mod table;
 
@@ -9,6 +10,9 @@ ghost use Rattle.two_columns.specs.Columns.{Printed};
 pub fn write_columns(src: &[u8], out: &mut [u8; 384000]) -> usize
     ensures { λ r. ⌜ Printed (now (src .entry)) (now (out .entry)) (now (out .exit)) r ⌝ }
 {
+    if limit::too_many(src) {
+        return table::write_refusal(limit::refused_number(src), out);
+    }
     let mut kept = [0u8; reducer::MOST_OUTPUT];
     let reduced = reducer::reduce(src, &mut kept);
     match reduced {

@@ -9,7 +9,8 @@ use lib.ListN.{length}
 use Rattle.stated.specs.Stated.{Stated}
 use Rattle.derived.specs.Bytes.{anyOver}
 use Rattle.derived.specs.Answer as derived
-use Rattle.tree.specs.Room.{start-first, start-le}
+use Rattle.tree.specs.Layout.{versionIn}
+use Rattle.tree.specs.Room.{start-le, header-before}
 use Rattle.tree.specs.Encoding.{Bytes, length-file}
 use Rattle.tree.specs.Fields.{settingsOf, countOf}
 use Rattle.tree.specs.Refusal.{reduceLimits, listEffectsLimits, refusal, treeOf}
@@ -83,16 +84,15 @@ unfoldable pub unpackedReduction : ℕ → Stated reduction.Case
 unpackedReduction r = readReduction (r / 4294967296) (r % 4294967296)
 
 -- A rewritten file has its header at least, and at most 3,999 records.
-rewritten-small : (s : List ℕ) → reduction.Promised s → countOf s ≤ 2000 → (t : Tree) → reduction.left s ≡ t ∷ [] → (0 < length (fileBytes (settingsOf s) t)) × (length (fileBytes (settingsOf s) t) < 4294967296)
+rewritten-small : (s : List ℕ) → reduction.Promised s → countOf s ≤ 2000 → (t : Tree) → reduction.left s ≡ t ∷ [] → (0 < length (fileBytes (versionIn s) (settingsOf s) t)) × (length (fileBytes (versionIn s) (settingsOf s) t) < 4294967296)
 rewritten-small s p l t e =
     let few : size t ≤ 2 * countOf s - 1 = omega (arith, p .few, ap (λ (r : List Tree). records (forest r)) e) in
     omega (
       arith,
-      length-file (settingsOf s) t,
-      start-first,
-      start-le 0 (size t) (omega arith),
-      start-le (size t) (2 * countOf s - 1) few,
-      reduction.most-enough (countOf s) l,
+      length-file (versionIn s) (settingsOf s) t,
+      header-before (versionIn s) (size t),
+      start-le (versionIn s) (size t) (2 * countOf s - 1) few,
+      reduction.most-enough (versionIn s) (countOf s) l,
     )
 
 -- So the answer of Reduce is read back whole.
@@ -107,7 +107,7 @@ unpacked-reduction s room bytes = go (reduction.number s room) refl
     left-back : reduction.Promised s → countOf s ≤ 2000 → (l : List Tree) → reduction.left s ≡ l → length (reduction.left s) ≤ 1
         → unpackedReduction (packed (reduction.statedOf 0 s)) ≡ reduction.statedOf 0 s
     left-back p f [] e o = rw e
-    left-back p f (t ∷ []) e o = let b = rewritten-small s p f t e in rw e (kept-back (length (fileBytes (settingsOf s) t)) (b .0) (b .1))
+    left-back p f (t ∷ []) e o = let b = rewritten-small s p f t e in rw e (kept-back (length (fileBytes (versionIn s) (settingsOf s) t)) (b .0) (b .1))
     left-back p f (t ∷ u ∷ us) e o = absurd (omega (arith, o, ap length e))
 
     go : (k : ℕ) → reduction.number s room ≡ k → unpackedReduction (packed (reduction.statedOf k s)) ≡ reduction.statedOf k s

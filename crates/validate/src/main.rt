@@ -1,11 +1,11 @@
 // Says whether Reduce would take a tree file.
-// Of standard input the first 32,009 bytes are read: one more than the longest file that is taken.
+// Of standard input the first 40,009 bytes are read: one more than the longest file that is taken.
 use file::Checked;
 use libc::STDIN_FILENO;
 use libc::STDOUT_FILENO;
 
 fn main() {
-    let mut input = [0u8; 32009];
+    let mut input = [0u8; 40009];
     let n = io::read_full(STDIN_FILENO, &mut input);
     print_answer(file::check(
         &input[..n],

@@ -15,8 +15,8 @@ const CHOOSING: usize = 200;
 /// The additions of a chain: one, and as many as go into the depth.
 const CHAINS: [usize; 2] = [1, 61];
 
-/// A line for each operation and size, `?:` of files with conditionals, `t` and `r` of chains of so many
-/// additions in templates and on the right of strings: nanoseconds a record of the port, of each other
+/// A line for each operation and size, `v2` of the same trees in version 2, `?:` of files with conditionals,
+/// `t` and `r` of chains of so many additions in templates and on the right of strings: nanoseconds a record of the port, of each other
 /// side, of the oracle if there is one, and of a copy of the file's bytes, which is the least that any
 /// could take; and behind each of these the ratio to the port. Medians, as `driver speed` takes them.
 pub fn table(
@@ -26,17 +26,18 @@ pub fn table(
 ) -> io::Result<String> {
     let (mut reduced, mut listed, mut checked) = (String::new(), String::new(), String::new());
     let has_oracle = oracle.is_some();
-    for records in SIZES {
-        let files = speed::files(records, seed);
+    for (records, version) in SIZES.into_iter().flat_map(|records| [(records, 1), (records, 2)]) {
+        let [reduce, list, check] = names(version);
+        let files = speed::in_version(version, speed::files(records, seed), seed);
         let line = liner(&files, has_oracle);
         let drawn = speed::measure(sides, &files);
-        checked += &line("check", drawn.iter().map(|measured| measured.check).collect(), None);
+        checked += &line(check, drawn.iter().map(|measured| measured.check).collect(), None);
         if records <= MOST_REDUCED {
-            let files = speed::walked_files(records, seed);
+            let files = speed::in_version(version, speed::walked_files(records, seed), seed);
             let (times, stages) = speed::reduce(sides, oracle.as_deref_mut(), &files)?;
-            reduced += &line("Reduce", times, stages.map(|stages| stages.all));
+            reduced += &line(reduce, times, stages.map(|stages| stages.all));
         }
-        listed += &line("List effects", drawn.iter().map(|measured| measured.list).collect(), None);
+        listed += &line(list, drawn.iter().map(|measured| measured.list).collect(), None);
     }
     let files = speed::choosing_files(CHOOSING, seed);
     let line = liner(&files, has_oracle);
@@ -53,6 +54,14 @@ pub fn table(
         }
     }
     Ok(head(sides, has_oracle, seed) + &reduced + &listed + &checked)
+}
+
+/// What the lines of a version begin with.
+fn names(version: u8) -> [&'static str; 3] {
+    match version {
+        1 => ["Reduce", "List effects", "check"],
+        _ => ["Reduce, v2", "List, v2", "check, v2"],
+    }
 }
 
 /// A line for the times of an operation on these files, with the oracle's, if there is one, and those

@@ -2,11 +2,13 @@
 
 use std::iter;
 
-use port::{Limits, Tree};
+use port::{AnyVersion, Limits};
 
 use crate::agreeing;
 use crate::called;
 use crate::damage::Damaged;
+use crate::end_hits;
+use crate::ends;
 use crate::file;
 use crate::hits::{self, Hits};
 use crate::listing_hits;
@@ -63,6 +65,10 @@ pub struct Tally {
     pub refused_reductions: u64,
     pub refused_lists: u64,
     pub oracle_trees: u64,
+    /// Of these, those of version 2: their answers have both ends.
+    pub oracle_ends: u64,
+    /// Trees that were answered in both versions.
+    pub both_versions: u64,
     /// Reductions of another side that were held to the first's, refused ones too, and the bytes
     /// lent for them: all are compared, also those after the answer.
     pub reductions: u64,
@@ -87,9 +93,13 @@ pub struct Tally {
     pub removable: u64,
     pub kept: u64,
     /// Refusals met, by number.
-    pub refused: [u64; 13],
+    pub refused: [u64; MOST_NUMBER + 1],
     pub hits: Hits,
 }
+
+/// The numbers of refusals.
+pub const NUMBERS: [u8; 13] = [1, 2, 3, 4, 5, 6, 7, 8, 9, 10, 11, 12, 17];
+pub const MOST_NUMBER: usize = 17;
 
 /// How many trees the oracle is asked about at once.
 const BATCH: usize = 256;
@@ -131,7 +141,7 @@ impl<'s> Comparator<'s> {
             self.kept(file, &answer)?;
         }
         let (tree, copy) = (accepted_by_port(file, Limits::REDUCE)?, Agreeing::of(file));
-        let marks = port::outcomes(tree);
+        let marks = tree.outcomes();
         self.tally.hits.add(&hits::of_tree(tree, &marks));
         let same = copy.premises()?;
         for yes in iter::once(None).chain(lists.iter().map(|yes| Some(&yes[..]))) {
@@ -139,12 +149,50 @@ impl<'s> Comparator<'s> {
             if yes.is_some() {
                 self.tally.hits.add(&listing_hits::of_list(tree, given));
             }
-            let holds = port::premise(tree, &marks, given);
+            let holds = tree.premise(&marks, given);
             self.premise(file, given, holds, same(given))?;
             let effects = self.demand_3(file, &answer, yes, more_room, holds)?;
             self.listed_as_copy(&copy, yes, &effects)?;
         }
         self.reduced_as_copy(answer, &copy)
+    }
+
+    /// The two files are one tree in version 1 and in version 2: all answers to the other one are those to
+    /// this one, under each of these lists, but for version and ends. "Version 1 is still read and answers
+    /// version 1" (02, N6).
+    pub fn both_versions(
+        &mut self,
+        file: &[u8],
+        other: &[u8],
+        lists: &[Vec<u32>],
+    ) -> Result<(), Difference> {
+        self.tally.both_versions += 1;
+        self.checked(other, 0, 0)?;
+        let (reduction, answer) = self.reduce(other, file::output_room(other))?;
+        self.not_refused("Reduce", reduction.number)?;
+        if !answer.is_empty() {
+            self.kept(other, &answer)?;
+        }
+        let (_, of_file) = self.reduce(file, file::output_room(file))?;
+        let same = ends::dropped(&answer) == ends::dropped(&of_file);
+        self.check(same, || {
+            reduced_otherwise("the same side, asked in the other version,", &answer, &of_file)
+        })?;
+        let trees =
+            (accepted_by_port(file, Limits::REDUCE)?, accepted_by_port(other, Limits::REDUCE)?);
+        let marks = (trees.0.outcomes(), trees.1.outcomes());
+        for yes in lists {
+            let (effects, same) =
+                (self.effects_of(other, Some(yes), 0)?, self.effects_of(file, Some(yes), 0)?);
+            self.check(effects == same, || {
+                format!("under {yes:?} effects {effects:?}, of the other version {same:?}")
+            })?;
+            let holds = (trees.0.premise(&marks.0, yes), trees.1.premise(&marks.1, yes));
+            self.premise(other, yes, holds.1, Some(holds.0))?;
+        }
+        self.tally.hits.add(&end_hits::of_tree(trees.0, &marks.0));
+        self.tally.hits.add(&end_hits::of_tree(trees.1, &marks.1));
+        Ok(())
     }
 
     /// The premise is that of the copy, if that differs from the file, and that of each side that offers
@@ -256,16 +304,18 @@ impl<'s> Comparator<'s> {
         })
     }
 
-    /// What holds of every kept answer: it is a tree file under the same settings, with at most
-    /// 2 × N − 1 records and at most one level more, and the listing takes it.
+    /// What holds of every kept answer: it is a tree file of the same version under the same settings, with
+    /// at most 2 × N − 1 records and at most one level more, and the listing takes it. Every node of version
+    /// 2 has both ends of one node of the tree.
     fn kept(&mut self, file: &[u8], answer: &[u8]) -> Result<(), Difference> {
         self.check(answer[..6] == file[..6], || "the header is not copied".to_string())?;
         let (before, after) = (file::count(file), file::count(answer));
-        let length = file::HEADER + file::RECORD * after;
+        let length = file::HEADER + file::width(file) * after;
         self.check(answer.len() == length, || {
             format!("{} bytes for {after} records", answer.len())
         })?;
         self.check(after < 2 * before, || format!("{after} records from {before}"))?;
+        self.check(ends::are_of(answer, file), || "a span that the tree has not".to_string())?;
         self.effects_of(answer, None, 0)?;
         let depths = (file::depth(file), file::depth(answer));
         self.check(depths.1 <= depths.0 + 1, || format!("depth {} from {}", depths.1, depths.0))
@@ -320,7 +370,8 @@ impl<'s> Comparator<'s> {
         let seen = (reduction.number, listing.number, given.number);
         let due = (case.reduce(), case.list(), case.list());
         self.check(seen == due, || format!("refused by {seen:?}, where {due:?} is due"))?;
-        let of_file = |number: u8| if number > 8 { 0 } else { number };
+        // 9 and 10 are about what is lent.
+        let of_file = |number: u8| if matches!(number, 9 | 10) { 0 } else { number };
         self.checked(&case.file, of_file(due.0), of_file(due.1))?;
         self.tally.refused_reductions += u64::from(due.0 != 0);
         self.tally.refused_lists += u64::from(due.1 != 0);
@@ -328,7 +379,7 @@ impl<'s> Comparator<'s> {
         if due.1 != due.0 {
             self.tally.refused[due.1 as usize] += 1;
         }
-        case.hit().into_iter().for_each(|hit| self.tally.hits.hit(hit));
+        case.hits().for_each(|hit| self.tally.hits.hit(hit));
         Ok(())
     }
 
@@ -458,6 +509,7 @@ impl<'s> Comparator<'s> {
         let theirs = oracle.reduce(&files).map_err(|error| format!("the oracle: {error}"))?;
         for ((file, ours), theirs) in files.iter().zip(&answers).zip(&theirs) {
             self.tally.oracle_trees += 1;
+            self.tally.oracle_ends += u64::from(file::width(file) == file::WIDTH_2);
             self.check(ours == theirs, || {
                 let answers = reduced_otherwise("the oracle", theirs, ours);
                 format!(
@@ -503,12 +555,12 @@ impl Agreeing {
     /// The copy's premise under a list, if it differs.
     fn premises(&self) -> Result<impl Fn(&[u32]) -> Option<bool>, Difference> {
         let tree = accepted_by_port(&self.file, Limits::REDUCE)?;
-        let marks = self.differs.then(|| port::outcomes(tree));
-        Ok(move |yes: &[u32]| marks.as_ref().map(|marks| port::premise(tree, marks, yes)))
+        let marks = self.differs.then(|| tree.outcomes());
+        Ok(move |yes: &[u32]| marks.as_ref().map(|marks| tree.premise(marks, yes)))
     }
 }
 
-fn accepted_by_port(file: &[u8], limits: Limits) -> Result<Tree<'_>, Difference> {
+fn accepted_by_port(file: &[u8], limits: Limits) -> Result<AnyVersion<'_>, Difference> {
     port::check(file, limits).map_err(|n| format!("the port refuses: {n}"))
 }
 

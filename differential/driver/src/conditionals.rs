@@ -4,6 +4,7 @@
 use port::{Limits, element, kind, sub};
 
 use crate::compare::{Comparator, Difference};
+use crate::ends;
 use crate::file;
 use crate::logicals;
 use crate::random::Random;
@@ -218,8 +219,8 @@ fn under_every_list(
     held.map_err(|seen| format!("{}{seen}", file::show(file)))
 }
 
-/// Seeded trees of up to 24 records and five test places, and copies of them with logicals. Every other
-/// one is made premise-true under each of its lists.
+/// Seeded trees of up to 24 records and five test places, half of them in version 2, and copies of them
+/// with logicals. Every other one is made premise-true under each of its lists.
 fn seeded(
     comparator: &mut Comparator,
     tally: &mut Tally,
@@ -230,6 +231,9 @@ fn seeded(
         let mut random = Random::new(seed ^ i.wrapping_mul(0xd134_2543_de82_ef95));
         let room = random.between(4, 24);
         let mut file = trees::conditional_file(&mut random, room);
+        if i / 2 % 2 == 1 {
+            file = ends::added(&mut random, &file);
+        }
         let logicals = logicals::with_logicals(&mut random, &file);
         if i.is_multiple_of(2) {
             let lists = yes::subsets(&yes::places(&file, PLACES));

@@ -2,7 +2,8 @@
 
 use port::{Limits, element, kind, sub};
 
-use crate::file;
+use crate::ends;
+use crate::file::{self, WIDTH_1, WIDTH_2};
 use crate::hits::Hit;
 use crate::logicals;
 use crate::never_symbol::{self, Never};
@@ -22,25 +23,46 @@ pub struct Damaged {
     pub touched: Option<usize>,
     /// Which of the six says that it is a symbol.
     never: Option<Never>,
+    /// The record whose end lies before its start.
+    span: Option<usize>,
+    /// What there is to count of a damaged header.
+    header: Option<Hit>,
 }
 
 /// A test of the file or of what is lent, in the order in which they are made. 5 is made twice, "for
-/// the addition just after the tree's shape is tested" (02, N9).
+/// the addition just after the tree's shape is tested" (02, N9), and 17 "after the tree's shape ... and
+/// before its depth" (N6).
 #[derive(Clone, Copy, Debug, PartialEq, Eq, PartialOrd, Ord)]
 pub enum Test {
     Of(u8),
     /// 5 for additions.
     Addition,
+    /// 17.
+    Span,
     After(u8),
     Passed,
 }
 
 impl Test {
-    const ALL: [Test; 11] = [
+    /// 17 is there twice, since it has the most tests to stand between.
+    const ALL: [Test; 13] = [
         Test::Of(1),
         Test::Of(2),
         Test::Of(3),
         Test::Of(4),
+        Test::Of(5),
+        Test::Of(6),
+        Test::Of(7),
+        Test::Addition,
+        Test::Span,
+        Test::Span,
+        Test::After(8),
+        Test::After(9),
+        Test::After(10),
+    ];
+
+    /// The tests between which 17 stands.
+    const BESIDE_SPAN: [Test; 7] = [
         Test::Of(5),
         Test::Of(6),
         Test::Of(7),
@@ -55,6 +77,7 @@ impl Test {
         match number {
             0 => Test::Passed,
             1..8 => Test::Of(number),
+            17 => Test::Span,
             _ => Test::After(number),
         }
     }
@@ -64,32 +87,39 @@ impl Test {
         match self {
             Test::Of(number) | Test::After(number) => number,
             Test::Addition => 5,
+            Test::Span => 17,
             Test::Passed => 0,
         }
     }
 }
 
-/// One damage or two; of two, the earlier test must win, wherever in the file they stand.
+/// One damage or two; of two, the earlier test must win, wherever in the file they stand. The file has the
+/// version of the good one, or version 2 for 17.
 pub fn damaged(random: &mut Random, good: &[u8]) -> Damaged {
     let mut tests = vec![random.pick(&Test::ALL)];
     if random.chance(96) {
         tests.push(random.pick(&Test::ALL));
     }
-    if tests == [Test::Addition] && random.chance(96) {
+    if tests == [Test::Addition] && random.chance(160) {
         tests.push(random.pick(&[Test::Of(6), Test::Of(7), Test::After(8)]));
+    }
+    if tests == [Test::Span] && random.chance(128) {
+        tests.push(random.pick(&Test::BESIDE_SPAN));
     }
     // The later test first: a damaged header hides no damage to a record from us.
     tests.sort_unstable_by(|a, b| b.cmp(a));
     tests.dedup();
     let additions = tests.contains(&Test::Addition);
-    let mut case = match tests.contains(&Test::After(8)) {
+    let with_ends = tests.contains(&Test::Span) || file::width(good) == WIDTH_2;
+    let case = match tests.contains(&Test::After(8)) {
         true if additions || random.chance(32) => long_chain(random),
         true => too_deep(random),
         false if additions && random.chance(128) => chain(random),
         false => Damaged::of(good.to_vec()),
     };
+    let mut case = case.with_ends_if(random, with_ends);
     if tests == [Test::Of(4)] && random.chance(8) {
-        return too_many(random);
+        return too_many(random).with_ends_if(random, with_ends);
     }
     for test in tests {
         case.damage(random, test);
@@ -134,9 +164,17 @@ fn too_many(random: &mut Random) -> Damaged {
 impl Damaged {
     fn of(file: Vec<u8>) -> Damaged {
         let (output_room, entry_room) = (file::output_room(&file), 2 * file::count(&file));
-        let reduce = if logicals::has_logicals(&file) { Test::Of(6) } else { Test::Passed };
-        let (list, faults, touched, never) = (Test::Passed, 0, None, None);
-        Damaged { file, output_room, entry_room, reduce, list, faults, touched, never }
+        let reduce = if logicals::has_logicals(&file) { 6 } else { 0 };
+        Damaged::lent(file, output_room, entry_room, reduce, 0)
+    }
+
+    /// The file is made one of version 2, if that is wanted of one that is not.
+    fn with_ends_if(mut self, random: &mut Random, wanted: bool) -> Damaged {
+        if wanted && file::width(&self.file) == WIDTH_1 {
+            self.file = ends::added(random, &self.file);
+            self.output_room = file::output_room(&self.file);
+        }
+        self
     }
 
     /// A file that is refused for what it is.
@@ -145,8 +183,8 @@ impl Damaged {
         Damaged { reduce, list, faults: 1, ..Damaged::of(file) }
     }
 
-    /// A file to which too little is lent.
-    pub fn short(
+    /// Any file, to which so much is lent.
+    pub fn lent(
         file: Vec<u8>,
         output_room: usize,
         entry_room: usize,
@@ -154,7 +192,18 @@ impl Damaged {
         list: u8,
     ) -> Damaged {
         let [reduce, list] = [reduce, list].map(Test::numbered);
-        Damaged { output_room, entry_room, reduce, list, ..Damaged::of(file) }
+        Damaged {
+            file,
+            output_room,
+            entry_room,
+            reduce,
+            list,
+            faults: 0,
+            touched: None,
+            never: None,
+            span: None,
+            header: None,
+        }
     }
 
     /// The number that Reduce must answer; 0: accepted.
@@ -183,14 +232,15 @@ impl Damaged {
             5 => self.bad_record(random),
             6 => return self.left_out_kind(random),
             7 => self.shape(random),
+            17 => self.bad_span(random),
             // The file was made too deep to begin with.
             8 => false,
             9 => {
-                self.output_room -= 1 + random.below(self.output_room);
+                self.output_room -= missing(random, self.output_room);
                 return self.refuse(test, Test::Passed);
             }
             _ => {
-                self.entry_room -= 1 + random.below(self.entry_room);
+                self.entry_room -= missing(random, self.entry_room);
                 return self.refuse(Test::Passed, test);
             }
         };
@@ -211,8 +261,17 @@ impl Damaged {
         true
     }
 
+    /// "Version 1 is still read" (02, N6), and no other but 2.
     fn version(&mut self, random: &mut Random) -> bool {
-        self.file[random.between(3, 4)] ^= random.between(1, 255) as u8;
+        let any = random.between(3, 65_535) as u16;
+        let version: u16 = random.pick(&[0, 0, 3, 3, 257, 258, 513, 514, 65_281, any]);
+        self.file[3..5].copy_from_slice(&version.to_le_bytes());
+        self.header = match (version & 255, version >> 8) {
+            (0, 0) => Some(Hit::Version0),
+            (3, 0) => Some(Hit::Version3),
+            (1 | 2, _) => Some(Hit::VersionHigh),
+            _ => None,
+        };
         true
     }
 
@@ -222,13 +281,22 @@ impl Damaged {
     }
 
     fn count_or_length(&mut self, random: &mut Random) -> bool {
-        let count = file::count(&self.file) as u16;
-        match random.below(4) {
+        let (count, width) = (file::count(&self.file) as u16, file::width(&self.file));
+        let way = random.below(5);
+        match way {
             0 => self.file[6..8].copy_from_slice(&[0, 0]),
             1 => self.file[6..8].copy_from_slice(&(count + 1).to_le_bytes()),
-            2 => self.file.truncate(self.file.len() - random.between(1, 16)),
-            _ => self.file.extend(vec![0; random.between(1, 32)]),
+            2 => self.file.truncate(self.file.len() - random.between(1, width)),
+            3 => self.file.extend(vec![0; random.between(1, 2 * width)]),
+            // The other version has records of another length.
+            _ => self.file[3] ^= 3,
         }
+        self.header = match (way, width) {
+            (4, WIDTH_2) => Some(Hit::Wide1),
+            (4, _) => Some(Hit::Narrow2),
+            (2 | 3, WIDTH_2) => Some(Hit::Length2),
+            _ => None,
+        };
         true
     }
 
@@ -286,8 +354,32 @@ impl Damaged {
         }
     }
 
-    /// What there is to count of a "yes" on one of the six.
-    pub fn hit(&self) -> Option<Hit> {
+    /// What there is to count.
+    pub fn hits(&self) -> impl Iterator<Item = Hit> {
+        let header = self.header.filter(|_| self.reduce() == 2 || self.reduce() == 4);
+        [header, self.yes_hit(), self.span_hit()].into_iter().flatten()
+    }
+
+    /// Of an end before its start: where it stands, if nothing else is wrong, and else beside what.
+    fn span_hit(&self) -> Option<Hit> {
+        let (record, file) = (self.span?, &self.file);
+        match self.reduce {
+            Test::Of(5) => Some(Hit::SpanAfter5),
+            Test::Of(6) => Some(Hit::SpanAfter6),
+            Test::Of(7) => Some(Hit::SpanAfter7),
+            Test::Addition => Some(Hit::SpanAfterAddition),
+            Test::Span if file::depth(file) > Limits::REDUCE.depth => Some(Hit::SpanBefore8),
+            Test::Span if self.output_room < file::output_room(file) => Some(Hit::SpanBefore9),
+            Test::Span if self.entry_room < 2 * file::count(file) => Some(Hit::SpanBefore10),
+            Test::Span if record == 0 => Some(Hit::SpanRoot),
+            Test::Span if record + 1 == file::count(file) => Some(Hit::SpanLast),
+            Test::Span => Some(Hit::SpanInside),
+            _ => None,
+        }
+    }
+
+    /// Of a "yes" on one of the six.
+    fn yes_hit(&self) -> Option<Hit> {
         let never = self.never?;
         match (never, self.reduce) {
             (Never::Addition, Test::Of(6)) => Some(Hit::YesAdditionAfter6),
@@ -300,6 +392,15 @@ impl Damaged {
             (_, Test::Of(5)) => Some(REFUSED[never as usize]),
             _ => None,
         }
+    }
+
+    /// "17 when an end lies before its start" (02, N6): at the root, at the last record, or at any.
+    fn bad_span(&mut self, random: &mut Random) -> bool {
+        let last = file::count(&self.file) - 1;
+        let any = random.below(last + 1);
+        let at = random.pick(&[0, last, any]);
+        self.span = Some(at);
+        self.edit(at, |record| ends::put_before(random, record))
     }
 
     /// "5 kind, facts, sub or byte 3."
@@ -394,6 +495,11 @@ impl Damaged {
         };
         self.edit(i, |r| r[..3].copy_from_slice(&[kind, 0, sub]))
     }
+}
+
+/// How much of what is needed is not lent.
+fn missing(random: &mut Random, needed: usize) -> usize {
+    if random.chance(128) { 1 } else { random.between(1, needed) }
 }
 
 const REFUSED: [Hit; 5] =

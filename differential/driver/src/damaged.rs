@@ -32,10 +32,10 @@ pub fn write(out: &mut impl Write, files: u64, seed: u64) -> io::Result<()> {
     Ok(())
 }
 
-/// Numbers 5 to 7 are those of records.
+/// Numbers 5 to 7, and 17, are those of records.
 fn record(case: &Damaged, number: u8) -> u16 {
     match case.touched {
-        Some(i) if (5..=7).contains(&number) => i as u16,
+        Some(i) if matches!(number, 5..=7 | 17) => i as u16,
         _ => NONE,
     }
 }

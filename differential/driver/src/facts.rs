@@ -6,9 +6,11 @@ use port::{element, kind, sub};
 use crate::compare::{Comparator, Difference};
 use crate::conditionals::{self, Head, Shape};
 use crate::damage::Damaged;
+use crate::ends;
 use crate::file;
+use crate::random::Random;
 
-/// How many files there are.
+/// How many there are, each a file of version 1 and one of version 2.
 pub const FILES: u64 = 256 * 256;
 
 /// All of them. Answers with how many had to be refused for their kind or facts.
@@ -20,12 +22,15 @@ pub fn go(comparator: &mut Comparator) -> Result<u64, Difference> {
     Ok(refused)
 }
 
-/// The file of this number, a kind times 256 and facts. Answers whether it had to be refused for them.
+/// The files of this number, a kind times 256 and facts. Answers whether they had to be refused for them.
 pub fn one(comparator: &mut Comparator, number: u64) -> Result<bool, Difference> {
     let (kind, facts) = ((number / 256) as u8, (number % 256) as u8);
     let (file, due) = (with_node(kind, facts), due(kind, facts));
-    held(comparator, &file, due)
-        .map_err(|seen| format!("kind {kind}, facts {facts}:\n{}{seen}", file::show(&file)))?;
+    let with_ends = ends::added(&mut Random::new(number), &file);
+    for file in [file, with_ends] {
+        held(comparator, &file, due)
+            .map_err(|seen| format!("kind {kind}, facts {facts}:\n{}{seen}", file::show(&file)))?;
+    }
     Ok(due == (5, 5))
 }
 

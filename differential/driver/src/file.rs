@@ -1,7 +1,14 @@
 //! A tree file's bytes, read without the port.
 
 pub const HEADER: usize = 8;
-pub const RECORD: usize = 16;
+/// How many bytes a record of version 1 has, and one of version 2: "the last four the end" (02, N6).
+pub const WIDTH_1: usize = 16;
+pub const WIDTH_2: usize = 20;
+
+/// How many bytes a record of a file has, whose header begins like this one. Any bytes will do.
+pub fn width(file: &[u8]) -> usize {
+    if file.get(3) == Some(&2) { WIDTH_2 } else { WIDTH_1 }
+}
 
 /// The record count that the header gives.
 pub fn count(file: &[u8]) -> usize {
@@ -10,11 +17,18 @@ pub fn count(file: &[u8]) -> usize {
 
 /// The bytes of record `i`.
 pub fn record(file: &[u8], i: usize) -> &[u8] {
-    &file[HEADER + RECORD * i..][..RECORD]
+    let width = width(file);
+    &file[HEADER + width * i..][..width]
 }
 
 pub fn record_mut(file: &mut [u8], i: usize) -> &mut [u8] {
-    &mut file[HEADER + RECORD * i..][..RECORD]
+    let width = width(file);
+    &mut file[HEADER + width * i..][..width]
+}
+
+/// The number that stands in a record from this byte on.
+pub fn number(record: &[u8], at: usize) -> u32 {
+    u32::from_le_bytes([record[at], record[at + 1], record[at + 2], record[at + 3]])
 }
 
 fn size(file: &[u8], i: usize) -> usize {
@@ -26,9 +40,9 @@ pub fn after(file: &[u8], i: usize) -> usize {
     i + size(file, i)
 }
 
-/// The file has as many bytes as its header's record count calls for.
+/// The file has as many bytes as its header's version and record count call for.
 pub fn is_whole(file: &[u8]) -> bool {
-    file.len() >= HEADER && file.len() == HEADER + RECORD * count(file)
+    file.len() >= HEADER && file.len() == HEADER + width(file) * count(file)
 }
 
 /// The files of an input, each of which stands behind its length in two bytes. One that is cut
@@ -42,9 +56,14 @@ pub fn framed(mut input: &[u8]) -> impl Iterator<Item = &[u8]> {
     })
 }
 
-/// The least output length for Reduce: "8 + 16 × (2 × N − 1)".
+/// The least output length for Reduce: "8 + 16 × (2 × N − 1)", and 20 for 16 in version 2.
 pub fn output_room(file: &[u8]) -> usize {
-    HEADER + RECORD * (2 * count(file) - 1)
+    room(width(file), count(file))
+}
+
+/// The same of so many records of this width.
+pub const fn room(width: usize, records: usize) -> usize {
+    HEADER + width * (2 * records - 1)
 }
 
 /// The parent of each record of a well-formed file, and its depth; the root has no parent.
@@ -68,14 +87,14 @@ pub fn depth(file: &[u8]) -> usize {
 
 /// The tree as text, a line for each record.
 pub fn show(file: &[u8]) -> String {
-    let mut text = format!("settings {}, {} records\n", file[5], count(file));
+    let mut text = format!("version {}, settings {}, {} records\n", file[3], file[5], count(file));
     for (i, (_, depth)) in parents_and_depths(file).into_iter().enumerate() {
         let r = record(file, i);
-        let number = |at: usize| u32::from_le_bytes([r[at], r[at + 1], r[at + 2], r[at + 3]]);
         let (kind, facts, sub, count) = (r[0], r[1], r[2], u16::from_le_bytes([r[4], r[5]]));
+        let end = if r.len() == WIDTH_2 { format!("..{}", number(r, 16)) } else { String::new() };
         text += &"  ".repeat(depth);
         text += &format!("kind {kind} facts {facts} sub {sub} children {count}");
-        text += &format!(" text {} place {}\n", number(8), number(12));
+        text += &format!(" text {} place {}{end}\n", number(r, 8), number(r, 12));
     }
     text
 }

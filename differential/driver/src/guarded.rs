@@ -6,7 +6,7 @@ use std::cell::Cell;
 use library::guarded::{Edge, Guarded, Sealed};
 use port::Limits;
 
-use crate::compare::{Comparator, Difference};
+use crate::compare::{Comparator, Difference, MOST_NUMBER};
 use crate::side::{Answer, Listing, Port, Reduction, Side};
 
 /// Holds the side to the port in both ways in which its memory can stand at a guard. Answers with what
@@ -27,7 +27,7 @@ pub struct Tally {
     pub calls: u64,
     pub bytes: u64,
     /// Answers by the number of the refusal; 0: accepted.
-    pub numbers: [u64; 13],
+    pub numbers: [u64; MOST_NUMBER + 1],
 }
 
 impl Tally {

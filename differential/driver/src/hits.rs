@@ -2,7 +2,7 @@
 
 use std::ops::Range;
 
-use port::{Marks, Outcome, Tree, element, kind, sub};
+use port::{AnyVersion, Marks, Outcome, Tree, element, kind, sub};
 
 use crate::never_symbol::{self, Never};
 
@@ -206,6 +206,33 @@ hits! {
     CalledAnnotationsOff "call of a function under tree-shake-only: annotated with annotations off"
     ListedCalledFlagged "listing: a called function, its callee, arguments and itself"
     ListedCalledUnflagged "listing: a called function, its callee and arguments"
+    EndOfStart "ends: an end equal to its start is taken"
+    EndOfSequence "ends: a made sequence has the node's, not its first child's"
+    EndOfJoined "ends: a joined sequence has the comparison's, not its left side's"
+    EndOfTemplateBefore "ends: a template made before a kept one has the kept one's, not the template's"
+    EndOfTemplateLast "ends: a template made at the end has the template's, not the last child's"
+    EndOfObjectBefore "ends: an object made at a property has the property's, not the object's"
+    EndOfObjectLast "ends: an object made at the end has the object's, not the last spread's"
+    EndOfArray "ends: an array made of a spread has the spread's, not the call's or new's"
+    EndOfEmptiedLeft "ends: an emptied left side has its own, not the addition's"
+    EndOfEmptiedRight "ends: an emptied right side has its own, not the addition's"
+    EndOfLogical "ends: a logical has the conditional's, not its test's"
+    Version0 "refused by 2: version 0"
+    Version3 "refused by 2: version 3"
+    VersionHigh "refused by 2: version 1 or 2 in the low byte, and another high byte than 0"
+    Wide1 "refused by 4: version 1, records of 20 bytes"
+    Narrow2 "refused by 4: version 2, records of 16 bytes"
+    Length2 "refused by 4: version 2, cut or extended"
+    SpanRoot "refused by 17: an end before its start, at the root"
+    SpanInside "refused by 17: the same between the root and the last record"
+    SpanLast "refused by 17: the same at the last record"
+    SpanBefore8 "refused by 17: the same in a file that is too deep"
+    SpanBefore9 "refused by 17: the same with too little output lent"
+    SpanBefore10 "refused by 17: the same with too few entries lent"
+    SpanAfter5 "refused by 5: the same with a bad record"
+    SpanAfter6 "refused by 6: the same with a left-out kind"
+    SpanAfter7 "refused by 7: the same in a file of a wrong shape"
+    SpanAfterAddition "refused by 5: the same with an addition that has a string part and is recorded as a symbol"
 }
 
 /// The outcomes of document 01's handlers.
@@ -213,6 +240,8 @@ pub const OF_01: Range<usize> = 0..Hit::ConditionalUnflagged as usize;
 /// Those of the conditional handler, and where a conditional stands.
 pub const OF_CONDITIONALS: Range<usize> =
     Hit::ConditionalUnflagged as usize..Hit::ListedConsequent as usize;
+/// Those whose ends tell which node gave a made one its place.
+pub const OF_ENDS: Range<usize> = Hit::EndOfStart as usize..Hit::Version0 as usize;
 
 /// Where one of the six of unknown symbol is read as none, by which of the six.
 pub const IN_TEMPLATE: [Hit; 6] = [
@@ -256,7 +285,7 @@ pub const LISTED_LEFT: [Hit; 5] = [
 ];
 
 /// Which of the six a node of unknown symbol is.
-fn unknown(tree: Tree, i: usize) -> Option<Never> {
+fn unknown<const W: usize>(tree: Tree<W>, i: usize) -> Option<Never> {
     let never = if tree.is_addition(i) {
         tree.has_string_part(i).then_some(Never::Addition)
     } else {
@@ -266,7 +295,7 @@ fn unknown(tree: Tree, i: usize) -> Option<Never> {
 }
 
 /// A call that is pure by document 01, and that tree-shake-only keeps before purity (02, N5).
-pub fn is_called_function(tree: Tree, i: usize) -> bool {
+pub fn is_called_function<const W: usize>(tree: Tree<W>, i: usize) -> bool {
     tree.kind(i) == kind::CALL && tree.is_pure_by_01(i) && !tree.is_pure(i)
 }
 
@@ -297,14 +326,14 @@ impl Hits {
         self.0[hit as usize] += 1;
     }
 
-    fn hit_if(&mut self, condition: bool, hit: Hit) {
+    pub fn hit_if(&mut self, condition: bool, hit: Hit) {
         if condition {
             self.hit(hit);
         }
     }
 
     /// Counts a node that is read as no symbol, if one of the six of unknown symbol.
-    pub fn hit_never(&mut self, tree: Tree, i: usize, hits: &[Hit]) {
+    pub fn hit_never<const W: usize>(&mut self, tree: Tree<W>, i: usize, hits: &[Hit]) {
         unknown(tree, i).into_iter().for_each(|never| self.hit(hits[never as usize]));
     }
 
@@ -314,18 +343,24 @@ impl Hits {
 }
 
 /// The outcomes that reducing this tree comes to.
-pub fn of_tree(tree: Tree, marks: &Marks) -> Hits {
-    counted(tree, marks).hits
+pub fn of_tree(tree: AnyVersion, marks: &Marks) -> Hits {
+    match tree {
+        AnyVersion::Version1(tree) => counted(tree, marks).hits,
+        AnyVersion::Version2(tree) => counted(tree, marks).hits,
+    }
 }
 
-/// How many expressions and properties reducing this tree comes to. The rest is kept or dropped
-/// with a node above it.
-pub fn reached(tree: Tree, marks: &Marks) -> usize {
-    counted(tree, marks).reached
+/// The expressions and properties that reducing this tree comes to. The rest is kept or dropped with
+/// a node above it.
+pub fn reached(tree: AnyVersion, marks: &Marks) -> Vec<usize> {
+    match tree {
+        AnyVersion::Version1(tree) => counted(tree, marks).reached,
+        AnyVersion::Version2(tree) => counted(tree, marks).reached,
+    }
 }
 
-fn counted<'a>(tree: Tree<'a>, marks: &'a Marks) -> Counter<'a> {
-    let mut counter = Counter { tree, marks, hits: Hits::default(), reached: 0 };
+fn counted<'a, const W: usize>(tree: Tree<'a, W>, marks: &'a Marks) -> Counter<'a, W> {
+    let mut counter = Counter { tree, marks, hits: Hits::default(), reached: Vec::new() };
     counter.expression(0);
     (0..tree.records.len()).for_each(|i| {
         counter.conditionals_under(i);
@@ -335,14 +370,14 @@ fn counted<'a>(tree: Tree<'a>, marks: &'a Marks) -> Counter<'a> {
 }
 
 /// Goes where the reduction goes.
-struct Counter<'a> {
-    tree: Tree<'a>,
+struct Counter<'a, const W: usize> {
+    tree: Tree<'a, W>,
     marks: &'a Marks,
     hits: Hits,
-    reached: usize,
+    reached: Vec<usize>,
 }
 
-impl Counter<'_> {
+impl<const W: usize> Counter<'_, W> {
     fn expressions(&mut self, nodes: impl Iterator<Item = usize>) {
         for node in nodes {
             self.expression(node);
@@ -350,7 +385,7 @@ impl Counter<'_> {
     }
 
     fn expression(&mut self, i: usize) {
-        self.reached += 1;
+        self.reached.push(i);
         let kept = self.marks.is_kept(i);
         match self.tree.kind(i) {
             kind::STRING_LITERAL => self.hits.hit(Hit::LiteralRemoved),
@@ -494,7 +529,7 @@ impl Counter<'_> {
             }
             self.hits.hit_if(waiting, Hit::ObjectFlushedAtProperty);
             waiting = false;
-            self.reached += 1;
+            self.reached.push(child);
             let keyed = tree.sub(child) == sub::KEY_AND_VALUE;
             self.hits.hit_if(keyed && self.marks.is_kept(child + 1), Hit::ObjectKeyKept);
             self.expressions(tree.children(child));

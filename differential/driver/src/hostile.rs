@@ -1,7 +1,9 @@
 //! Files that no exporter writes: trees changed by chance, and bytes that never were a tree. No number is
 //! known to be due of them.
 
-use crate::file::{self, HEADER, RECORD};
+use std::array;
+
+use crate::file::{self, HEADER, WIDTH_1, WIDTH_2};
 use crate::random::Random;
 
 /// A file made of this tree or of nothing.
@@ -12,14 +14,14 @@ pub fn file(random: &mut Random, tree: &[u8]) -> Vec<u8> {
         2 => extended(random, tree.to_vec()),
         3 => spliced(random, tree.to_vec()),
         4 => bytes(random, 400),
-        5 => headed(random, |random, _| [random.draw(), random.draw()].map(u64::to_le_bytes)),
+        5 => headed(random, |random, _| array::from_fn(|_| random.draw() as u8)),
         _ => headed(random, plausible),
     }
 }
 
 /// So many bytes at most, each drawn by itself. Now and then as many as the longest files have.
 fn bytes(random: &mut Random, most: usize) -> Vec<u8> {
-    let most = if random.chance(1) { 65_536 } else { most };
+    let most = if random.chance(1) { 80_000 } else { most };
     let length = random.between(0, most);
     (0..length).map(|_| random.draw() as u8).collect()
 }
@@ -33,26 +35,36 @@ pub fn lists(random: &mut Random) -> [Vec<u8>; 2] {
     })
 }
 
-/// All lengths from 0 to that of two records, of a few beginnings.
+/// All lengths from 0 to that of two records, of a few beginnings of each version.
 pub fn beginnings(random: &mut Random) -> Vec<Vec<u8>> {
-    const LEAF: [u8; RECORD] = [2, 1, 0, 0, 0, 0, 1, 0, 0, 0, 0, 0, 0, 0, 0, 0];
-    const VOID: [u8; RECORD] = [14, 1, 1, 0, 1, 0, 2, 0, 0, 0, 0, 0, 0, 0, 0, 0];
-    const LONGEST: usize = HEADER + 2 * RECORD;
-    let headed = |version: u8, settings: u8, count: u8, first: [u8; RECORD]| {
-        [&[b'U', b'X', b'T', version, 0, settings, count, 0][..], &first, &LEAF].concat()
+    /// Up to the start, which is 1.
+    const LEAF: [u8; WIDTH_1] = [2, 1, 0, 0, 0, 0, 1, 0, 0, 0, 0, 0, 1, 0, 0, 0];
+    const VOID: [u8; WIDTH_1] = [14, 1, 1, 0, 1, 0, 2, 0, 0, 0, 0, 0, 1, 0, 0, 0];
+    const LONGEST: usize = HEADER + 2 * WIDTH_2;
+    let header =
+        |version: u8, settings: u8, count: u8| [b'U', b'X', b'T', version, 0, settings, count, 0];
+    let narrow = |header: [u8; HEADER], first: [u8; WIDTH_1]| [&header[..], &first, &LEAF].concat();
+    let wide = |header: [u8; HEADER], first: [u8; WIDTH_1], ends: [u8; 2]| {
+        let end = |end: u8| [end, 0, 0, 0];
+        [&header[..], &first, &end(ends[0]), &LEAF, &end(ends[1])].concat()
     };
     let whole = [
-        headed(1, 0, 1, LEAF),
-        headed(1, 7, 2, VOID),
-        headed(1, 0, 2, LEAF),
-        headed(1, 0, 0, LEAF),
-        headed(1, 8, 1, LEAF),
-        headed(2, 0, 1, LEAF),
+        narrow(header(1, 0, 1), LEAF),
+        narrow(header(1, 7, 2), VOID),
+        narrow(header(1, 0, 2), LEAF),
+        narrow(header(1, 0, 0), LEAF),
+        narrow(header(1, 8, 1), LEAF),
+        narrow(header(2, 0, 2), VOID),
+        wide(header(2, 0, 1), LEAF, [1, 1]),
+        wide(header(2, 7, 2), VOID, [2, 1]),
+        wide(header(2, 0, 2), VOID, [1, 0]),
+        wide(header(1, 0, 2), VOID, [1, 1]),
+        wide(header(3, 0, 1), LEAF, [1, 1]),
         vec![0; LONGEST],
         vec![255; LONGEST],
         (0..LONGEST).map(|_| random.draw() as u8).collect(),
     ];
-    whole.iter().flat_map(|file| (0..=LONGEST).map(|length| file[..length].to_vec())).collect()
+    whole.iter().flat_map(|file| (0..=file.len()).map(|length| file[..length].to_vec())).collect()
 }
 
 // Trees, changed.
@@ -73,17 +85,17 @@ fn cut(random: &mut Random, file: &[u8]) -> Vec<u8> {
 }
 
 fn extended(random: &mut Random, mut file: Vec<u8>) -> Vec<u8> {
-    let more = random.between(1, 3 * RECORD);
+    let more = random.between(1, 3 * WIDTH_2);
     file.extend((0..more).map(|_| random.draw() as u8));
     recounted(random, file)
 }
 
 /// Some records put in the place of others.
 fn spliced(random: &mut Random, mut file: Vec<u8>) -> Vec<u8> {
-    let count = file::count(&file);
+    let (count, width) = (file::count(&file), file::width(&file));
     let moved = random.between(1, count.min(8));
-    let [from, to] = [0; 2].map(|_| HEADER + RECORD * random.between(0, count - moved));
-    file.copy_within(from..from + RECORD * moved, to);
+    let [from, to] = [0; 2].map(|_| HEADER + width * random.between(0, count - moved));
+    file.copy_within(from..from + width * moved, to);
     file
 }
 
@@ -91,8 +103,9 @@ fn spliced(random: &mut Random, mut file: Vec<u8>) -> Vec<u8> {
 /// looked at, too.
 fn recounted(random: &mut Random, mut file: Vec<u8>) -> Vec<u8> {
     if file.len() >= HEADER && random.chance(128) {
-        let count = (file.len() - HEADER) / RECORD;
-        file.truncate(HEADER + RECORD * count);
+        let width = file::width(&file);
+        let count = (file.len() - HEADER) / width;
+        file.truncate(HEADER + width * count);
         file[6..HEADER].copy_from_slice(&(count as u16).to_le_bytes());
     }
     file
@@ -100,21 +113,22 @@ fn recounted(random: &mut Random, mut file: Vec<u8>) -> Vec<u8> {
 
 // Never a tree.
 
-/// A right header, and records that are drawn.
-fn headed(random: &mut Random, record: impl Fn(&mut Random, usize) -> [[u8; 8]; 2]) -> Vec<u8> {
+/// A right header, and records that are drawn; those of version 1 have no end.
+fn headed(random: &mut Random, record: impl Fn(&mut Random, usize) -> [u8; WIDTH_2]) -> Vec<u8> {
     let most = if random.chance(4) { 4_100 } else { 24 };
     let count = random.between(1, most);
-    let mut file = b"UXT\x01\x00".to_vec();
-    file.push(random.below(8) as u8);
+    let mut file = b"UXT".to_vec();
+    file.extend([random.between(1, 2) as u8, 0, random.below(8) as u8]);
     file.extend((count as u16).to_le_bytes());
+    let width = file::width(&file);
     for _ in 0..count {
-        file.extend(record(random, count).as_flattened());
+        file.extend(&record(random, count)[..width]);
     }
     file
 }
 
 /// A record of which each field could be right: with no children or few, and any size.
-fn plausible(random: &mut Random, records: usize) -> [[u8; 8]; 2] {
+fn plausible(random: &mut Random, records: usize) -> [u8; WIDTH_2] {
     let kind = random.between(1, 22) as u8;
     let (facts, sub) = match kind {
         1 => (18, 0),
@@ -127,5 +141,12 @@ fn plausible(random: &mut Random, records: usize) -> [[u8; 8]; 2] {
     let children = random.below(4) as u8;
     let size = random.between(1, records) as u16;
     let [low, high] = random.pick(&[1, 2, size, size, u16::MAX]).to_le_bytes();
-    [[kind, facts, sub, 0, children, 0, low, high], random.draw().to_le_bytes()]
+    let mut record = [0; WIDTH_2];
+    record[..8].copy_from_slice(&[kind, facts, sub, 0, children, 0, low, high]);
+    record[8..16].copy_from_slice(&random.draw().to_le_bytes());
+    // Behind the start, or anywhere.
+    let any = random.draw() as u32;
+    let end = random.pick(&[u32::MAX, u32::MAX, u32::MAX, any]);
+    record[16..].copy_from_slice(&end.to_le_bytes());
+    record
 }

@@ -12,6 +12,9 @@ pub mod conditionals;
 pub mod damage;
 pub mod damaged;
 pub mod derived;
+pub mod end_hits;
+pub mod ends;
+pub mod ends_rows;
 pub mod facts;
 #[cfg(feature = "library")]
 pub mod faulty;

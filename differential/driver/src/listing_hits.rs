@@ -1,25 +1,32 @@
 //! How often the listing ran each side of a test, by the places that count as yes, where it read one of the
 //! six of unknown symbol as none, and where it came to a call that tree-shake-only keeps before purity.
 
-use port::{Tree, kind, sub};
+use port::{AnyVersion, Tree, kind, sub};
 
 use crate::hits::{Hit, Hits, LISTED_CHILD, LISTED_LEFT, LISTED_RIGHT, is_called_function};
 
 /// The tests that listing this tree under this list comes to.
-pub fn of_list(tree: Tree, yes: &[u32]) -> Hits {
+pub fn of_list(tree: AnyVersion, yes: &[u32]) -> Hits {
+    match tree {
+        AnyVersion::Version1(tree) => walked(tree, yes),
+        AnyVersion::Version2(tree) => walked(tree, yes),
+    }
+}
+
+fn walked<const W: usize>(tree: Tree<W>, yes: &[u32]) -> Hits {
     let mut walk = Walk { tree, yes, hits: Hits::default() };
     walk.node(0);
     walk.hits
 }
 
 /// Goes where the listing goes.
-struct Walk<'a> {
-    tree: Tree<'a>,
+struct Walk<'a, const W: usize> {
+    tree: Tree<'a, W>,
     yes: &'a [u32],
     hits: Hits,
 }
 
-impl Walk<'_> {
+impl<const W: usize> Walk<'_, W> {
     fn nodes(&mut self, nodes: impl Iterator<Item = usize>) {
         for node in nodes {
             self.node(node);
@@ -68,7 +75,7 @@ impl Walk<'_> {
     }
 
     fn test(&mut self, i: usize) {
-        let is_yes = self.yes.contains(&self.tree.place(i + 1));
+        let is_yes = self.yes.contains(&self.tree.start(i + 1));
         self.hits.hit(match (self.tree.kind(i), self.tree.sub(i), is_yes) {
             (kind::CONDITIONAL, _, true) => Hit::ListedConsequent,
             (kind::CONDITIONAL, _, false) => Hit::ListedAlternate,

@@ -2,7 +2,7 @@
 
 use port::{kind, sub};
 
-use crate::file;
+use crate::file::{self, HEADER, WIDTH_2};
 use crate::never_symbol;
 use crate::random::Random;
 
@@ -31,12 +31,11 @@ pub fn has_logicals(file: &[u8]) -> bool {
 /// arm: `a && b` is `a ? b : 1`, and `a || b` is `a ? 1 : b`. Under every list both have the same
 /// effects, but for the kind in the coercion of such a node.
 pub fn as_conditionals(file: &[u8]) -> Vec<u8> {
-    let mut records = Vec::new();
-    let end = write(file, 0, &mut records);
+    let mut copy = file[..HEADER].to_vec();
+    let end = write(file, 0, &mut copy);
     assert_eq!(end, file::count(file), "records are left over");
-    let mut copy = file[..6].to_vec();
-    copy.extend((records.len() as u16).to_le_bytes());
-    copy.extend(records.concat());
+    let records = (copy.len() - HEADER) / file::width(file);
+    copy[6..HEADER].copy_from_slice(&(records as u16).to_le_bytes());
     copy
 }
 
@@ -48,29 +47,32 @@ pub fn as_conditional(entry: u64) -> u64 {
     place * 512 + node
 }
 
-const LEAF: [u8; file::RECORD] = [kind::OTHER_LEAF, 0, 0, 0, 0, 0, 1, 0, 0, 0, 0, 0, 0, 0, 0, 0];
+/// In version 1 without its end.
+const LEAF: [u8; WIDTH_2] =
+    [kind::OTHER_LEAF, 0, 0, 0, 0, 0, 1, 0, 0, 0, 0, 0, 0, 0, 0, 0, 0, 0, 0, 0];
 
 /// Writes the node of record `i`; answers with the record behind it.
-fn write(file: &[u8], i: usize, records: &mut Vec<[u8; file::RECORD]>) -> usize {
-    let mut record: [u8; file::RECORD] = file::record(file, i).try_into().expect("a record");
+fn write(file: &[u8], i: usize, copy: &mut Vec<u8>) -> usize {
+    let record = file::record(file, i);
+    let leaf = &LEAF[..record.len()];
     let (operator, children) = (record[2], u16::from_le_bytes([record[4], record[5]]));
     let logical = record[0] == kind::LOGICAL;
-    let at = records.len();
-    records.push(record);
+    let at = copy.len();
+    copy.extend(record);
     let mut next = i + 1;
     for child in 0..children {
         if logical && operator == sub::OR && child == 1 {
-            records.push(LEAF);
+            copy.extend(leaf);
         }
-        next = write(file, next, records);
+        next = write(file, next, copy);
     }
     if logical {
         if operator == sub::AND {
-            records.push(LEAF);
+            copy.extend(leaf);
         }
-        [record[0], record[2], record[4]] = [kind::CONDITIONAL, 0, 3];
+        [copy[at], copy[at + 2], copy[at + 4]] = [kind::CONDITIONAL, 0, 3];
     }
-    record[6..8].copy_from_slice(&((records.len() - at) as u16).to_le_bytes());
-    records[at] = record;
+    let size = (copy.len() - at) / record.len();
+    copy[at + 6..at + 8].copy_from_slice(&(size as u16).to_le_bytes());
     next
 }

@@ -1,10 +1,11 @@
 //! The driver's commands; `driver help` lists them.
 
 use driver::bench;
-use driver::compare::{Comparator, Tally};
+use driver::compare::{Comparator, NUMBERS, Tally};
 use driver::conditionals::{self, Extent};
 use driver::damaged;
 use driver::facts;
+use driver::file;
 use driver::fixed;
 use driver::hits::HITS;
 #[cfg(feature = "library")]
@@ -148,6 +149,7 @@ fn run(arguments: &Arguments) -> Result<String, String> {
     run::conditional_rows(&mut comparator)?;
     run::never_symbol_rows(&mut comparator)?;
     run::called_rows(&mut comparator)?;
+    run::ends_rows(&mut comparator)?;
     let sums = sums::go(&mut comparator)?;
     let facts = facts::go(&mut comparator)?;
     run::edges(&mut comparator)?;
@@ -160,7 +162,8 @@ fn run(arguments: &Arguments) -> Result<String, String> {
     report(&tally, arguments, list.len(), questions);
     println!("  {}", every_list(small));
     println!("  {} files of additions in each other, {} of them refused", sums.0 + sums.1, sums.1);
-    println!("  {} files of every kind with every facts byte, {facts} refused by 5", facts::FILES);
+    println!("  {} files of every kind with every facts byte, {facts} refused by 5;", facts::FILES);
+    println!("    as many of version 2");
     run::met_enough(&tally)?;
     Ok(passed(&tally))
 }
@@ -185,8 +188,11 @@ fn run_conditionals(arguments: &Arguments) -> Result<String, String> {
 
 /// The copies are those whose facts the oracle reads as document 02 does.
 fn held_to_oracle(tally: &Tally) -> String {
-    let (copies, all) = (tally.left_out, tally.oracle_trees);
-    format!("oracle: {} trees as they are, and {copies} copies, 0 different", all - copies)
+    let Tally { left_out: copies, oracle_trees: all, oracle_ends: ends, .. } = *tally;
+    format!(
+        "oracle: {} trees as they are, and {copies} copies, 0 different; {ends} of all with both ends",
+        all - copies
+    )
 }
 
 fn left_out(tally: &Tally) -> String {
@@ -217,6 +223,7 @@ fn report(tally: &Tally, arguments: &Arguments, listed: usize, questions: u64) {
     let (holds, fails) = (tally.premise_true_given, tally.premise_false_given);
     println!("  under lists of places that count as yes, {holds} premise-true, {fails} not");
     println!("  {} files with logicals, for List effects", tally.listed);
+    println!("  {} trees in both versions", tally.both_versions);
     println!("  {}", left_out(tally));
     match arguments.oracle {
         Some(_) => {
@@ -228,8 +235,9 @@ fn report(tally: &Tally, arguments: &Arguments, listed: usize, questions: u64) {
     report_sides(tally);
     let (reduce, list) = (tally.refused_reductions, tally.refused_lists);
     println!("  of the damaged files, {reduce} refused by Reduce, {list} by List effects");
-    let refused: u64 = tally.refused[1..].iter().sum();
-    println!("  {refused} refusals by number 1 to 12: {:?}", &tally.refused[1..]);
+    let refused = NUMBERS.map(|number| tally.refused[usize::from(number)]);
+    let all: u64 = refused.iter().sum();
+    println!("  {all} refusals by number 1 to 12 and 17: {refused:?}");
     let rarest = HITS.iter().min_by_key(|&&(hit, _)| tally.hits.count(hit));
     if let Some(&(hit, words)) = rarest {
         let count = tally.hits.count(hit);
@@ -310,13 +318,18 @@ fn measure(arguments: &Arguments) -> Result<String, String> {
         speed::ROUNDS
     );
     let mut oracle = start_oracle(arguments)?;
-    println!("Reduce, on trees to most of whose records it comes");
-    for records in [10, 40, 200, 260, 2_000] {
-        measure_reduce(records, arguments.seed, oracle.as_mut()).map_err(|e| e.to_string())?;
-    }
-    println!("on trees as they are drawn");
-    for records in [10, 200, 2_000, 3_999] {
-        measure_as_drawn(records, arguments.seed);
+    for version in [1, 2] {
+        println!("version {version}: Reduce, on trees to most of whose records it comes");
+        for records in [10, 40, 200, 260, 2_000] {
+            let files = speed::walked_files(records, arguments.seed);
+            let files = speed::in_version(version, files, arguments.seed);
+            measure_reduce(&files, oracle.as_mut()).map_err(|e| e.to_string())?;
+        }
+        println!("version {version}: on trees as they are drawn");
+        for records in [10, 200, 2_000, 3_999] {
+            let files = speed::files(records, arguments.seed);
+            measure_as_drawn(&speed::in_version(version, files, arguments.seed));
+        }
     }
     if let Some(oracle) = oracle {
         oracle.stop().map_err(|error| error.to_string())?;
@@ -333,19 +346,19 @@ fn benchmark(arguments: &Arguments) -> Result<String, String> {
     Ok(table)
 }
 
-fn measure_reduce(records: usize, seed: u64, oracle: Option<&mut Oracle>) -> io::Result<()> {
-    let files = speed::walked_files(records, seed);
-    let (reached, written) = speed::walked(&files, &Port);
+fn measure_reduce(files: &[Vec<u8>], oracle: Option<&mut Oracle>) -> io::Result<()> {
+    let (reached, written) = speed::walked(files, &Port);
     println!(
-        "  {} files of {records} records: {:.0} % reached, {:.0} % as many written",
+        "  {} files of {} records: {:.0} % reached, {:.0} % as many written",
         files.len(),
+        file::count(&files[0]),
         100.0 * reached,
         100.0 * written
     );
     if reached < 0.5 {
         return Err(io::Error::other("most records are not reached"));
     }
-    let (times, oracle) = speed::reduce(SIDES, oracle, &files)?;
+    let (times, oracle) = speed::reduce(SIDES, oracle, files)?;
     for (side, time) in SIDES.iter().zip(times) {
         println!("    {:8} Reduce {:>5}", side.name(), shown(time));
     }
@@ -356,10 +369,9 @@ fn measure_reduce(records: usize, seed: u64, oracle: Option<&mut Oracle>) -> io:
     Ok(())
 }
 
-fn measure_as_drawn(records: usize, seed: u64) {
-    let files = speed::files(records, seed);
-    println!("  {} files of {records} records", files.len());
-    for (side, measured) in SIDES.iter().zip(speed::measure(SIDES, &files)) {
+fn measure_as_drawn(files: &[Vec<u8>]) {
+    println!("  {} files of {} records", files.len(), file::count(&files[0]));
+    for (side, measured) in SIDES.iter().zip(speed::measure(SIDES, files)) {
         let [check, reduce, list] = [measured.check, measured.reduce, measured.list].map(shown);
         let name = side.name();
         println!("    {name:8} Reduce {reduce:>5}  List effects {list:>5}  check {check:>5}");

@@ -4,14 +4,16 @@ use std::path::Path;
 use std::time::Duration;
 
 use crate::compare::Difference;
-use crate::file;
+use crate::file::{self, WIDTH_2};
 use crate::listings;
 use crate::process;
 use crate::reduced;
 use crate::side::Side;
 
-/// How much a program reads of its input: one byte more than the longest file that Reduce takes.
-const READ: usize = 32_009;
+/// How much `columns` reads of its input: one byte more than the longest file that it takes.
+const READ_BY_COLUMNS: usize = 32_009;
+/// The same of `reduce`, which takes all that Reduce takes.
+const READ_BY_REDUCE: usize = 40_009;
 
 /// Where the programs are, and how long one run of one may take.
 pub struct Programs<'a> {
@@ -28,7 +30,7 @@ pub fn held(side: &dyn Side, programs: &Programs, input: &[u8]) -> Result<String
     }
     let mut tally = Tally::default();
     for (i, file) in files.iter().enumerate() {
-        let answer = Answer::of(side, &file[..file.len().min(READ)]);
+        let answer = Answer::of(side, file);
         let alike = answer.is_printed(programs, file);
         alike.map_err(|what| {
             format!("file {} of {}, {} bytes: {what}", i + 1, files.len(), file.len())
@@ -47,14 +49,9 @@ struct Answer {
 
 impl Answer {
     fn of(side: &dyn Side, file: &[u8]) -> Answer {
-        let mut left = vec![0; reduced::OUT];
-        let reduction = side.reduce(file, &mut left);
-        left.truncate(reduction.length);
-        let columns = match reduction.number {
-            0 => columns(side, file, &left),
-            number => refused(number),
-        };
-        Answer { number: reduction.number, left, columns }
+        let read = |most: usize| &file[..file.len().min(most)];
+        let (number, left) = left_of(side, read(READ_BY_REDUCE));
+        Answer { number, left, columns: columns(side, read(READ_BY_COLUMNS)) }
     }
 
     /// Both programs, given the whole file, print this answer.
@@ -65,9 +62,33 @@ impl Answer {
     }
 }
 
+/// The number of the refusal, and what is left.
+fn left_of(side: &dyn Side, file: &[u8]) -> (u8, Vec<u8>) {
+    let mut left = vec![0; reduced::OUT];
+    let reduction = side.reduce(file, &mut left);
+    left.truncate(reduction.length);
+    (reduction.number, left)
+}
+
+/// What `columns` prints. The count that it takes is tested with Reduce's, so before the records are.
+fn columns(side: &dyn Side, file: &[u8]) -> String {
+    match left_of(side, file) {
+        (number @ 1..=3, _) => refused(number),
+        _ if has_too_many(file) => refused(4),
+        (0, left) => table(side, file, &left),
+        (number, _) => refused(number),
+    }
+}
+
+/// "The two-column ... programs take 1,500 records of version 2 and refuse more as a wrong count"
+/// (02, N6).
+fn has_too_many(file: &[u8]) -> bool {
+    file::width(file) == WIDTH_2 && file::count(file) > 1_500
+}
+
 /// "Columns are place/kind/coercion, `-` where the shorter list has ended; last, N and result
 /// records (0 if removable)." Nothing is left of a tree that is removable.
-fn columns(side: &dyn Side, file: &[u8], left: &[u8]) -> String {
+fn table(side: &dyn Side, file: &[u8], left: &[u8]) -> String {
     let before = effects(side, file);
     let after = if left.is_empty() { Vec::new() } else { effects(side, left) };
     let cell = |list: &[String], i: usize| list.get(i).map_or("-".to_string(), String::clone);
@@ -125,26 +146,31 @@ fn same(printed: &[u8], due: &[u8]) -> Result<(), Difference> {
 struct Tally {
     kept: u64,
     removable: u64,
-    /// By numbers 1 to 8: enough is lent for any file.
-    refused: [u64; 8],
+    /// By numbers 1 to 8 and 17: enough is lent for any file.
+    refused: [u64; 9],
+    /// Taken by `reduce`, and of too many records for `columns`.
+    by_columns: u64,
 }
+
+const NUMBERS: [u8; 9] = [1, 2, 3, 4, 5, 6, 7, 8, 17];
 
 impl Tally {
     fn count(&mut self, answer: &Answer) {
-        match answer.number {
-            0 if answer.left.is_empty() => self.removable += 1,
-            0 => self.kept += 1,
-            number => self.refused[usize::from(number) - 1] += 1,
+        match NUMBERS.iter().position(|&number| number == answer.number) {
+            Some(at) => self.refused[at] += 1,
+            None if answer.left.is_empty() => self.removable += 1,
+            None => self.kept += 1,
         }
+        self.by_columns += u64::from(answer.number == 0 && answer.columns == refused(4));
     }
 
     fn text(&self) -> String {
-        let Tally { kept, removable, refused } = self;
+        let Tally { kept, removable, refused, by_columns } = self;
         let files = kept + removable + refused.iter().sum::<u64>();
         let mut text = format!("files {files}\nkept {kept}\nremovable {removable}\n");
-        for (number, count) in (1..).zip(refused) {
+        for (number, count) in NUMBERS.iter().zip(refused) {
             text += &format!("refused with {number}: {count}\n");
         }
-        text
+        text + &format!("refused with 4 by columns alone: {by_columns}\n")
     }
 }

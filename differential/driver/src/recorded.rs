@@ -1,25 +1,32 @@
 //! The list of effects by document 01 alone: as it was before "what can never be a symbol" (02, N9), a possible
 //! symbol being what is not recorded as none, and before "called functions under tree-shake-only" (N5).
 
-use port::{Tree, kind, sub};
+use port::{AnyVersion, Tree, kind, sub};
 
 /// The effects of an accepted tree where the places in `yes` count as yes.
-pub fn effects(tree: Tree, yes: &[u32]) -> Vec<u64> {
+pub fn effects(tree: AnyVersion, yes: &[u32]) -> Vec<u64> {
+    match tree {
+        AnyVersion::Version1(tree) => listed(tree, yes),
+        AnyVersion::Version2(tree) => listed(tree, yes),
+    }
+}
+
+fn listed<const W: usize>(tree: Tree<W>, yes: &[u32]) -> Vec<u64> {
     let mut listing = Listing { tree, yes, entries: Vec::new() };
     listing.node(0);
     listing.entries
 }
 
-struct Listing<'a> {
-    tree: Tree<'a>,
+struct Listing<'a, const W: usize> {
+    tree: Tree<'a, W>,
     yes: &'a [u32],
     entries: Vec<u64>,
 }
 
-impl Listing<'_> {
+impl<const W: usize> Listing<'_, W> {
     fn effect_if(&mut self, condition: bool, i: usize, coercion: u64) {
         if condition {
-            let (place, kind) = (u64::from(self.tree.place(i)), u64::from(self.tree.kind(i)));
+            let (place, kind) = (u64::from(self.tree.start(i)), u64::from(self.tree.kind(i)));
             self.entries.push(place * 512 + kind * 2 + coercion);
         }
     }

@@ -3,8 +3,8 @@
 use crate::file;
 use crate::side::Side;
 
-/// Enough for any file that Reduce takes: 8 + 16 × (2 × 2,000 − 1).
-pub const OUT: usize = 63_992;
+/// Enough for any file that Reduce takes: 8 + 20 × (2 × 2,000 − 1).
+pub const OUT: usize = 79_988;
 
 /// For each file of the input, which stands behind its length in two bytes: the number of the
 /// refusal, the length of the answer and the hash of its bytes.

@@ -1,6 +1,6 @@
 //! What is left of tree files, as the program `reductions` prints it.
 
-use crate::file::{HEADER, RECORD};
+use crate::file::{self, HEADER};
 use crate::side::{Reduction, Side};
 
 /// For each case of the input, in the input's order: `refused` and the number, `removable`, or `kept`
@@ -31,7 +31,7 @@ fn answer(reduction: Reduction, out: &[u8]) -> String {
     }
     let (header, records) = out[..length].split_at(HEADER);
     let mut text = format!("kept {length}\n") + &line(header);
-    for record in records.chunks(RECORD) {
+    for record in records.chunks(file::width(header)) {
         text += &line(record);
     }
     text

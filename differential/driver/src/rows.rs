@@ -2,6 +2,8 @@
 
 use port::{element, kind, sub};
 
+use crate::file::{self, WIDTH_2};
+
 /// A tree by hand.
 #[derive(Clone)]
 pub struct Node {
@@ -10,6 +12,7 @@ pub struct Node {
     sub: u8,
     text: u32,
     place: u32,
+    end: u32,
     children: Vec<Node>,
 }
 
@@ -17,7 +20,7 @@ pub const FLAGGED: u8 = 1;
 pub const NO_SYMBOL: u8 = 2;
 
 pub fn node(kind: u8, facts: u8, sub: u8, place: u32, children: &[Node]) -> Node {
-    Node { kind, facts, sub, text: 0, place, children: children.to_vec() }
+    Node { kind, facts, sub, text: 0, place, end: place, children: children.to_vec() }
 }
 
 impl Node {
@@ -25,29 +28,44 @@ impl Node {
         Node { text, ..self }
     }
 
+    /// The end of its place, which is else its start.
+    pub fn to(self, end: u32) -> Node {
+        Node { end, ..self }
+    }
+
     pub fn no_symbol_if(self, condition: bool) -> Node {
         Node { facts: self.facts | if condition { NO_SYMBOL } else { 0 }, ..self }
     }
 
-    /// The tree's file with all settings off.
+    /// The tree's file of version 1 with all settings off.
     pub fn file(&self) -> Vec<u8> {
         self.file_under(0)
     }
 
-    /// The tree's file with these settings.
+    /// The same with these settings.
     pub fn file_under(&self, settings: u8) -> Vec<u8> {
+        self.assembled(1, settings)
+    }
+
+    /// The tree's file of version 2 with all settings off.
+    pub fn file_with_ends(&self) -> Vec<u8> {
+        self.assembled(2, 0)
+    }
+
+    fn assembled(&self, version: u8, settings: u8) -> Vec<u8> {
         let mut records = Vec::new();
         self.write(&mut records);
-        let mut file = b"UXT\x01\x00".to_vec();
-        file.push(settings);
+        let mut file = b"UXT".to_vec();
+        file.extend([version, 0, settings]);
         file.extend((records.len() as u16).to_le_bytes());
-        file.extend(records.concat());
+        let width = file::width(&file);
+        records.iter().for_each(|record| file.extend(&record[..width]));
         file
     }
 
-    fn write(&self, records: &mut Vec<[u8; 16]>) {
+    fn write(&self, records: &mut Vec<[u8; WIDTH_2]>) {
         let at = records.len();
-        records.push([0; 16]);
+        records.push([0; WIDTH_2]);
         self.children.iter().for_each(|child| child.write(records));
         let size = (records.len() - at) as u16;
         let record = &mut records[at];
@@ -55,7 +73,8 @@ impl Node {
         record[4..6].copy_from_slice(&(self.children.len() as u16).to_le_bytes());
         record[6..8].copy_from_slice(&size.to_le_bytes());
         record[8..12].copy_from_slice(&self.text.to_le_bytes());
-        record[12..].copy_from_slice(&self.place.to_le_bytes());
+        record[12..16].copy_from_slice(&self.place.to_le_bytes());
+        record[16..].copy_from_slice(&self.end.to_le_bytes());
     }
 }
 

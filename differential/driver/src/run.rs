@@ -3,10 +3,12 @@
 use port::Limits;
 
 use crate::called_rows;
-use crate::compare::{Comparator, Difference, Tally};
+use crate::compare::{Comparator, Difference, NUMBERS, Tally};
 use crate::conditional_rows;
 use crate::damage::{self, Damaged};
 use crate::derived;
+use crate::ends;
+use crate::ends_rows;
 use crate::file;
 use crate::fixed::Case;
 use crate::hits::LEAST;
@@ -20,38 +22,46 @@ use crate::yes;
 
 /// A tree, with what else is drawn for it.
 pub struct Drawn {
+    /// Of version 1 or 2.
     pub file: Vec<u8>,
+    /// The same tree in the other version.
+    pub other: Vec<u8>,
     /// Lists of places that count as yes; the first is empty.
     pub lists: Vec<Vec<u32>>,
     /// For what is drawn next.
     pub random: Random,
 }
 
-/// The tree of number `i` under this seed: every other one is made premise-true under all its lists.
+/// The tree of number `i` under this seed: every other one is made premise-true under all its lists, and
+/// of these and of the others every other one is of version 2.
 pub fn tree(seed: u64, i: u64) -> Drawn {
     let mut random = Random::new(seed ^ i.wrapping_mul(0xd134_2543_de82_ef95));
-    let mut file = trees::file(&mut random);
+    let file = trees::file(&mut random);
+    let mut with_ends = ends::added(&mut random, &file);
     let mut lists = vec![vec![]];
-    lists.extend(yes::lists(&mut random, &file));
+    lists.extend(yes::lists(&mut random, &with_ends));
     if i.is_multiple_of(2) {
-        trees::make_premise_true(&mut file, &lists);
+        trees::make_premise_true(&mut with_ends, &lists);
     }
-    Drawn { file, lists, random }
+    let without = ends::dropped(&with_ends);
+    let (file, other) = if i / 2 % 2 == 1 { (with_ends, without) } else { (without, with_ends) };
+    Drawn { file, other, lists, random }
 }
 
 /// What every file that Reduce takes has room in; now and then as much is lent.
-const MOST_OUT: usize = file::HEADER + file::RECORD * (2 * Limits::REDUCE.records - 1);
+const MOST_OUT: usize = file::room(file::WIDTH_2, Limits::REDUCE.records);
 
-/// Holds the sides to each other on the tree of number `i`, on a copy with logicals where it has
-/// binaries, and on a damaged copy of one of the two.
+/// Holds the sides to each other on the tree of number `i` in both versions, on a copy with logicals where
+/// it has binaries, and on a damaged copy of one of the two.
 pub fn case(comparator: &mut Comparator, seed: u64, i: u64) -> Result<(), Difference> {
-    let Drawn { file, lists, mut random } = tree(seed, i);
+    let Drawn { file, other, lists, mut random } = tree(seed, i);
     let named = |file: &[u8], difference: Difference| {
         format!("seed {seed}, tree {i}:\n{}{difference}", file::show(file))
     };
     let little = random.pick(&[0, 0, 1, 7, 40]);
-    let more_room = if i % 256 == 255 { MOST_OUT - file::output_room(&file) } else { little };
+    let more_room = if i % 255 == 254 { MOST_OUT - file::output_room(&file) } else { little };
     comparator.accepted(&file, more_room, &lists).map_err(|seen| named(&file, seen))?;
+    comparator.both_versions(&file, &other, &lists).map_err(|seen| named(&other, seen))?;
     let logicals = logicals::with_logicals(&mut random, &file);
     let lists = yes::lists(&mut random, &logicals);
     if logicals::has_logicals(&logicals) {
@@ -135,6 +145,24 @@ pub fn called_rows(comparator: &mut Comparator) -> Result<(), Difference> {
     Ok(())
 }
 
+/// Rows of document 02, N6: the ends of what is left, what is listed, and what is refused before what.
+pub fn ends_rows(comparator: &mut Comparator) -> Result<(), Difference> {
+    for (row, tree, answer) in ends_rows::rows() {
+        let file = tree.file_with_ends();
+        let named = |seen: Difference| format!("{row}: {seen}");
+        comparator.answers(&file, &answer.file_with_ends()).map_err(named)?;
+        comparator.both_versions(&file, &tree.file(), &[vec![]]).map_err(named)?;
+    }
+    for (row, tree, yes, effects) in ends_rows::effects() {
+        let held = comparator.effects(&tree.file_with_ends(), &yes, &effects);
+        held.map_err(|seen| format!("{row}: {seen}"))?;
+    }
+    for (row, damaged) in ends_rows::refused() {
+        comparator.refused(&damaged, &[1]).map_err(|seen| format!("{row}: {seen}"))?;
+    }
+    Ok(())
+}
+
 /// The oracle's answers, as listed.
 pub fn fixed_list(comparator: &mut Comparator, cases: &[Case]) -> Result<(), Difference> {
     for (i, case) in cases.iter().enumerate() {
@@ -144,27 +172,44 @@ pub fn fixed_list(comparator: &mut Comparator, cases: &[Case]) -> Result<(), Dif
 }
 
 /// "Edges: N 2,000 taken, 2,001 refused 4; depth 64 taken, 65 refused 8; N = 1 needs 24 bytes, 23
-/// is 9." The listing's limits are 3,999 and 65.
+/// is 9." The listing's limits are 3,999 and 65. In version 2 all is so, but that N = 1 needs 28 bytes.
 pub fn edges(comparator: &mut Comparator) -> Result<(), Difference> {
+    edges_of(comparator, |_, file| file)?;
+    edges_of(comparator, |random, file| ends::added(random, &file))
+}
+
+/// The edges of files of version 1 as `made` makes others of them.
+fn edges_of(
+    comparator: &mut Comparator,
+    made: impl Fn(&mut Random, Vec<u8>) -> Vec<u8>,
+) -> Result<(), Difference> {
     let mut random = Random::new(1);
+    let wide = |random: &mut Random, records: usize| {
+        let file = trees::wide_file(random, records);
+        made(random, file)
+    };
+    let deep = |random: &mut Random, depth: usize| {
+        let file = trees::deep_file(random, depth);
+        made(random, file)
+    };
     for records in [1, 2, Limits::REDUCE.records] {
-        let file = trees::wide_file(&mut random, records);
+        let file = wide(&mut random, records);
         comparator.accepted(&file, 0, &[vec![0]])?;
         let (output_room, entry_room) = (file::output_room(&file), 2 * records);
-        let short = Damaged::short(file.clone(), output_room - 1, entry_room, 9, 0);
+        let short = Damaged::lent(file.clone(), output_room - 1, entry_room, 9, 0);
         comparator.refused(&short, &[])?;
-        let short = Damaged::short(file, output_room, entry_room - 1, 0, 10);
+        let short = Damaged::lent(file, output_room, entry_room - 1, 0, 10);
         comparator.refused(&short, &[])?;
     }
-    let deepest = trees::deep_file(&mut random, Limits::REDUCE.depth);
+    let deepest = deep(&mut random, Limits::REDUCE.depth);
     let lists = yes::lists(&mut random, &deepest);
     comparator.accepted(&deepest, 0, &lists)?;
     for (records, list) in [(2_001, 0), (3_999, 0), (4_000, 4)] {
-        let file = trees::wide_file(&mut random, records);
+        let file = wide(&mut random, records);
         comparator.refused(&Damaged::whole(file, 4, list), &[])?;
     }
     for (depth, list) in [(65, 0), (66, 8)] {
-        let file = trees::deep_file(&mut random, depth);
+        let file = deep(&mut random, depth);
         let yes = yes::list(&mut random, &file);
         comparator.refused(&Damaged::whole(file, 8, list), &yes)?;
     }
@@ -199,7 +244,8 @@ pub fn met_enough(tally: &Tally) -> Result<(), Difference> {
     if let Some((words, count)) = tally.hits.under(LEAST).next() {
         return Err(rare(words, count));
     }
-    for (number, &count) in tally.refused.iter().enumerate().skip(1) {
+    for number in NUMBERS {
+        let count = tally.refused[usize::from(number)];
         if count < LEAST {
             return Err(rare(&format!("refusal {number}"), count));
         }

@@ -39,7 +39,7 @@ pub trait Side {
 
     fn derived(&self, scopes: &[u8], ancestors: &[u8]) -> Answer;
 
-    /// Refusals 1 to 8 (0: accepted), if the side offers the check by itself.
+    /// Refusals 1 to 8 and 17 (0: accepted), if the side offers the check by itself.
     fn check(&self, file: &[u8], limits: Limits) -> Option<u8>;
 
     /// The premise of demand 3 under this list, if the side offers it; the port's is what it is held to.

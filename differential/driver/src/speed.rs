@@ -6,6 +6,7 @@ use std::time::Instant;
 
 use port::Limits;
 
+use crate::ends;
 use crate::file;
 use crate::hits;
 use crate::oracle::Oracle;
@@ -64,6 +65,15 @@ pub fn chains_files(records: usize, additions: usize, right: bool, seed: u64) ->
         .collect()
 }
 
+/// The same trees in this version.
+pub fn in_version(version: u8, files: Vec<Vec<u8>>, seed: u64) -> Vec<Vec<u8>> {
+    if version == 1 {
+        return files;
+    }
+    let mut random = Random::new(seed);
+    files.iter().map(|file| ends::added(&mut random, file)).collect()
+}
+
 /// Of the records of all files, the share of expressions that Reduce comes to, and the records of
 /// the answers by those of the files.
 pub fn walked(files: &[Vec<u8>], side: &dyn Side) -> (f64, f64) {
@@ -72,8 +82,8 @@ pub fn walked(files: &[Vec<u8>], side: &dyn Side) -> (f64, f64) {
         let tree = port::check(file, Limits::REDUCE).expect("an accepted file");
         let mut out = vec![0; file::output_room(file)];
         records += file::count(file);
-        reached += hits::reached(tree, &port::outcomes(tree));
-        written += side.reduce(file, &mut out).length / file::RECORD;
+        reached += hits::reached(tree, &tree.outcomes()).len();
+        written += side.reduce(file, &mut out).length / file::width(file);
     }
     (reached as f64 / records as f64, written as f64 / records as f64)
 }

@@ -1,5 +1,5 @@
-//! Seeded random tree files that document 01 accepts: every kind, fact and setting, with bias to
-//! where the handlers' outcomes part.
+//! Seeded random tree files of version 1 that document 01 accepts: every kind, fact and setting, with
+//! bias to where the handlers' outcomes part.
 
 use port::{Limits, element, kind, sub};
 
@@ -164,7 +164,7 @@ pub fn make_premise_true(file: &mut [u8], lists: &[Vec<u32>]) {
 fn untrue(file: &[u8], yes: &[u32]) -> Option<usize> {
     let tree = port::check(file, Limits::REDUCE).expect("an accepted file");
     let mut untrue = None;
-    port::reads(tree, &port::outcomes(tree), yes, &mut |read| {
+    tree.reads(&tree.outcomes(), yes, &mut |read| {
         if read.has_effects {
             untrue = Some(read.node);
         }

@@ -1,10 +1,13 @@
 //! Whole, damaged and random inputs through the library, in guarded memory and held to the port.
 
+use std::iter;
+
 use port::Limits;
 
-use crate::compare::{Comparator, Difference};
+use crate::compare::{Comparator, Difference, NUMBERS};
 use crate::damage;
 use crate::derived;
+use crate::ends;
 use crate::faulty;
 use crate::file;
 use crate::guarded::{self, Tally};
@@ -26,10 +29,11 @@ pub fn run(files: u64, seed: u64) -> Result<String, Difference> {
         Ok(short)
     })?;
     met_all(&tally)?;
-    let (accepted, refused) = (tally.numbers[0], &tally.numbers[1..]);
+    let (accepted, refused) =
+        (tally.numbers[0], NUMBERS.map(|number| tally.numbers[usize::from(number)]));
     Ok(format!(
-        "seed {seed}: {} files, {} calls, {accepted} accepted, refused by number 1 to 12 {refused:?}, \
-         {} bytes lent, 0 different\n",
+        "seed {seed}: {} files, {} calls, {accepted} accepted, refused by number 1 to 12 and 17 \
+         {refused:?}, {} bytes lent, 0 different\n",
         short + files,
         tally.calls,
         tally.bytes
@@ -46,7 +50,8 @@ pub fn run_faulty(fault: usize) -> Result<String, Difference> {
 
 /// A run without one of the refusals shows too little.
 fn met_all(tally: &Tally) -> Result<(), Difference> {
-    match tally.numbers.iter().position(|&count| count == 0) {
+    let mut numbers = iter::once(0).chain(NUMBERS);
+    match numbers.find(|&number| tally.numbers[usize::from(number)] == 0) {
         Some(number) => Err(format!("no answer had the number {number}")),
         None => Ok(()),
     }
@@ -54,8 +59,21 @@ fn met_all(tally: &Tally) -> Result<(), Difference> {
 
 /// Every short file, with room of every sort. Answers with how many files there are.
 fn beginnings(comparator: &mut Comparator, seed: u64) -> Result<u64, Difference> {
-    // One record needs 24 bytes and 2 entries, two need 56 and 4; the last two fill a page.
-    let rooms = [(0, 0), (23, 1), (24, 2), (25, 3), (55, 3), (56, 4), (4_096, 512)];
+    // One record needs 24 bytes, or 28 of version 2, and 2 entries, two need 56, or 68, and 4; the last
+    // two fill a page.
+    let rooms = [
+        (0, 0),
+        (23, 1),
+        (24, 2),
+        (25, 3),
+        (27, 2),
+        (28, 2),
+        (55, 3),
+        (56, 4),
+        (67, 4),
+        (68, 4),
+        (4_096, 512),
+    ];
     let mut random = Random::new(seed);
     let files = hostile::beginnings(&mut random);
     for file in &files {
@@ -71,6 +89,7 @@ fn beginnings(comparator: &mut Comparator, seed: u64) -> Result<u64, Difference>
 fn many_places(comparator: &mut Comparator, seed: u64) -> Result<u64, Difference> {
     let mut random = Random::new(seed);
     let file = trees::conditional_file(&mut random, 400);
+    let file = ends::added(&mut random, &file);
     let (output, entries) = (file::output_room(&file), 2 * file::count(&file));
     let yes = yes::many(&mut random, &file);
     comparator.alike(&file, output, entries, &yes)?;
@@ -114,7 +133,7 @@ fn case(comparator: &mut Comparator, seed: u64, i: u64) -> Result<(), Difference
 fn alike(comparator: &mut Comparator, random: &mut Random, file: &[u8]) -> Result<(), Difference> {
     let records = if file.len() < file::HEADER { 1 } else { file::count(file) };
     let records = records.clamp(1, Limits::LIST_EFFECTS.records);
-    let output = room(random, file::HEADER + file::RECORD * (2 * records - 1));
+    let output = room(random, file::room(file::width(file), records));
     let entries = room(random, 2 * records);
     comparator.alike(file, output, entries, &yes::list(random, file))
 }

@@ -11,22 +11,22 @@ pub const MANY: usize = 10_000;
 
 /// The places of a file's nodes, of which a list is made.
 struct Places {
-    /// Those of the tests of conditionals and logicals, in the order of the records.
+    /// The starts of the tests of conditionals and logicals, in the order of the records.
     tests: Vec<u32>,
+    /// All starts, then the ends, if there are any: no test counts as yes by its end.
     all: Vec<u32>,
 }
 
 impl Places {
     /// Of any bytes: a record that could have children is taken for one that has them.
     fn of(file: &[u8]) -> Places {
-        let records =
-            file.get(file::HEADER..).unwrap_or_default().as_chunks::<{ file::RECORD }>().0;
-        let place = |r: &[u8; file::RECORD]| u32::from_le_bytes([r[12], r[13], r[14], r[15]]);
-        let all: Vec<u32> = records.iter().map(place).collect();
-        let has_test = |r: &[u8; file::RECORD]| matches!(r[0], kind::LOGICAL | kind::CONDITIONAL);
-        let behind = all.iter().skip(1);
-        let tests = records.iter().zip(behind).filter(|(r, _)| has_test(r)).map(|(_, &p)| p);
-        Places { tests: tests.collect(), all }
+        let records = file.get(file::HEADER..).unwrap_or_default().chunks_exact(file::width(file));
+        let starts = records.clone().map(|r| file::number(r, 12));
+        let has_test = |r: &[u8]| matches!(r[0], kind::LOGICAL | kind::CONDITIONAL);
+        let tests = records.clone().zip(starts.clone().skip(1));
+        let tests = tests.filter(|(r, _)| has_test(r)).map(|(_, start)| start);
+        let ends = records.filter(|r| r.len() == file::WIDTH_2).map(|r| file::number(r, 16));
+        Places { tests: tests.collect(), all: starts.clone().chain(ends).collect() }
     }
 }
 
@@ -38,7 +38,7 @@ pub fn tests(file: &[u8]) -> Vec<u32> {
     tests
 }
 
-/// At most `most` places of a file, each once, those of tests first.
+/// At most `most` places of a file, each once, those of tests first, ends last.
 pub fn places(file: &[u8], most: usize) -> Vec<u32> {
     let Places { tests, all } = Places::of(file);
     let mut places = Vec::new();

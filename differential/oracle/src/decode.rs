@@ -5,13 +5,24 @@ use oxc_ast::{Record, ast::*, left_out};
 
 use crate::TraverseCtx;
 
+/// How many bytes a record of this file has: "version 2 records have 20 bytes, the last four the end"
+/// (02, N6).
+pub fn width(file: &[u8]) -> usize {
+    match file[3] {
+        1 => 16,
+        2 => 20,
+        version => panic!("no version {version}"),
+    }
+}
+
 /// The tree of an accepted file, and the context that answers for its facts.
 pub fn tree<'a>(file: &[u8]) -> (Expression<'a>, TraverseCtx<'a>) {
-    let records = file[8..].as_chunks().0;
-    let ctx = TraverseCtx::of_tree(file[5], records.len());
-    let mut decoder = Decoder { records, next: 0, ctx };
+    let (records, width) = (&file[8..], width(file));
+    let count = records.len() / width;
+    let mut decoder =
+        Decoder { records, width, next: 0, ctx: TraverseCtx::of_tree(file[5], count) };
     let root = decoder.expression();
-    assert_eq!(decoder.next, records.len(), "records are left over");
+    assert_eq!(decoder.next, count, "records are left over");
     (root, decoder.ctx)
 }
 
@@ -47,20 +58,22 @@ impl Node {
 
 /// Reads the records in order.
 struct Decoder<'r, 'a> {
-    records: &'r [[u8; 16]],
+    records: &'r [u8],
+    width: usize,
     next: usize,
     ctx: TraverseCtx<'a>,
 }
 
 impl<'a> Decoder<'_, 'a> {
     fn peek(&self) -> u8 {
-        self.records[self.next][0]
+        self.records[self.width * self.next]
     }
 
     fn node(&mut self) -> Node {
-        let r = self.records[self.next];
+        let r = &self.records[self.width * self.next..][..self.width];
         let number = |at: usize| u32::from_le_bytes([r[at], r[at + 1], r[at + 2], r[at + 3]]);
-        let span = Span { start: number(12), owner: self.next as u32 };
+        // The last four bytes: the end, or the start where there is none.
+        let span = Span { start: number(12), end: number(self.width - 4), owner: self.next as u32 };
         self.next += 1;
         let count = u16::from_le_bytes([r[4], r[5]]).into();
         Node { kind: r[0], facts: r[1], sub: r[2], count, text: number(8), span }

@@ -1,24 +1,27 @@
 //! From the stand-in tree, as the published handlers left it, back to a tree file.
 //!
-//! Kinds, subs, children and places are read off the tree; facts and text are those recorded for
-//! the node. For a made node they are what document 01 says: "text 0, symbol and string unknown
-//! ...; flag set if a child's is, and on every made template."
+//! Kinds, subs, children and both ends of places are read off the tree; facts and text are those
+//! recorded for the node. For a made node they are what document 01 says: "text 0, symbol and string
+//! unknown ...; flag set if a child's is, and on every made template."
 
 use oxc_ast::{Record, ast::*};
 
-/// The file of a kept tree, with the settings of the file that it was reduced from.
-pub fn file(settings: u8, tree: &Expression) -> Vec<u8> {
+use crate::decode;
+
+/// The file of a kept tree, with the version and settings of the file that it was reduced from.
+pub fn file(from: &[u8], tree: &Expression) -> Vec<u8> {
     let mut encoder = Encoder { records: Vec::new() };
     encoder.expression(tree);
-    let mut file = b"UXT\x01\x00".to_vec();
-    file.push(settings);
+    let mut file = from[..6].to_vec();
     file.extend((encoder.records.len() as u16).to_le_bytes());
-    file.extend(encoder.records.concat());
+    let width = decode::width(from);
+    encoder.records.iter().for_each(|record| file.extend(&record[..width]));
     file
 }
 
+/// Records of version 2. Those of version 1 are the same without their last four bytes, the end.
 struct Encoder {
-    records: Vec<[u8; 16]>,
+    records: Vec<[u8; 20]>,
 }
 
 /// What a record says besides its children.
@@ -54,7 +57,7 @@ impl Encoder {
     /// Writes a node's record and its children; answers with the node's flag.
     fn node(&mut self, head: Head, children: impl FnOnce(&mut Self, &mut Children)) -> bool {
         let at = self.records.len();
-        self.records.push([0; 16]);
+        self.records.push([0; 20]);
         let mut written = Children { count: 0, flagged: false };
         children(self, &mut written);
         let (facts, text) = match head.content {
@@ -67,7 +70,8 @@ impl Encoder {
         record[4..6].copy_from_slice(&written.count.to_le_bytes());
         record[6..8].copy_from_slice(&size.to_le_bytes());
         record[8..12].copy_from_slice(&text.to_le_bytes());
-        record[12..].copy_from_slice(&head.span.start.to_le_bytes());
+        record[12..16].copy_from_slice(&head.span.start.to_le_bytes());
+        record[16..].copy_from_slice(&head.span.end.to_le_bytes());
         facts & 1 != 0
     }
 

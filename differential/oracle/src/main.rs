@@ -111,7 +111,7 @@ fn reductions(files: &[Vec<u8>]) -> Vec<u8> {
 
 /// The reduced file; empty if the tree is removable.
 fn answer(file: &[u8], tree: &Expression, removable: bool) -> Vec<u8> {
-    if removable { Vec::new() } else { encode::file(file[5], tree) }
+    if removable { Vec::new() } else { encode::file(file, tree) }
 }
 
 /// Goes through the files, so many at a time.

@@ -1,7 +1,8 @@
-//! Refusals 1 to 8.
+//! Refusals 1 to 8, and 17.
 
 use super::tree::{
-    HEADER_SIZE, LITERAL_FACTS, RECORD_SIZE, Record, Tree, element, is_never_symbol, kind, sub,
+    AnyVersion, HEADER_SIZE, LITERAL_FACTS, Record, Tree, WIDTH_2, element, is_never_symbol, kind,
+    span_of, sub,
 };
 
 /// How many records a file may have, how deep its tree may be, and whether logical nodes are taken.
@@ -27,38 +28,64 @@ const MAX_DEPTH: usize = 254;
 
 /// The file's tree, or the number of its refusal. "Over all records each": a number is tested
 /// over all records before the next number is.
-pub fn check(file: &[u8], limits: Limits) -> Result<Tree<'_>, u8> {
-    let tree = check_header(file, limits.records)?;
-    check_records(tree.records, limits.logicals)?;
-    let depth = check_shape(tree)?;
-    check_additions(tree)?;
-    // "8 depth over 64 (root 1)."
-    if depth > limits.depth.min(MAX_DEPTH) { Err(8) } else { Ok(tree) }
+pub fn check(file: &[u8], limits: Limits) -> Result<AnyVersion<'_>, u8> {
+    let (header, rest) = check_version(file)?;
+    Ok(match header[3] {
+        1 => AnyVersion::Version1(check_tree(header, rest, limits)?),
+        _ => AnyVersion::Version2(check_tree(header, rest, limits)?),
+    })
 }
 
-/// "1 under 8 bytes or mark wrong; 2 version; 3 setting bits 3–7; 4 count not 1–2,000, or length
-/// not 8 + 16 × N."
-fn check_header(file: &[u8], max_records: usize) -> Result<Tree<'_>, u8> {
+type Header = [u8; HEADER_SIZE];
+
+/// "1 under 8 bytes or mark wrong; 2 version": 1 or 2 (02, N6). Answers with the header and what stands
+/// behind it.
+fn check_version(file: &[u8]) -> Result<(&Header, &[u8]), u8> {
     let Some((header, rest)) = file.split_first_chunk::<HEADER_SIZE>() else { return Err(1) };
     if header[..3] != *b"UXT" {
         return Err(1);
     }
-    if u16::from_le_bytes([header[3], header[4]]) != 1 {
+    if !matches!(u16::from_le_bytes([header[3], header[4]]), 1 | 2) {
         return Err(2);
     }
+    Ok((header, rest))
+}
+
+/// The other tests, for records of this width.
+fn check_tree<'a, const W: usize>(
+    header: &Header,
+    rest: &'a [u8],
+    limits: Limits,
+) -> Result<Tree<'a, W>, u8> {
+    let tree = check_header(header, rest, limits.records)?;
+    check_records(tree.records, limits.logicals)?;
+    let depth = check_shape(tree)?;
+    check_additions(tree)?;
+    check_spans(tree)?;
+    // "8 depth over 64 (root 1)."
+    if depth > limits.depth.min(MAX_DEPTH) { Err(8) } else { Ok(tree) }
+}
+
+/// "3 setting bits 3–7; 4 count not 1–2,000, or length not 8 + 16 × N"; "each length formula uses 20
+/// for 16 in version 2" (02, N6).
+fn check_header<'a, const W: usize>(
+    header: &Header,
+    rest: &'a [u8],
+    max_records: usize,
+) -> Result<Tree<'a, W>, u8> {
     let settings = header[5];
     if settings > 7 {
         return Err(3);
     }
     let count = u16::from_le_bytes([header[6], header[7]]) as usize;
-    if count < 1 || count > max_records.min(MAX_RECORDS) || rest.len() != RECORD_SIZE * count {
+    if count < 1 || count > max_records.min(MAX_RECORDS) || rest.len() != W * count {
         return Err(4);
     }
     Ok(Tree { records: rest.as_chunks().0, settings })
 }
 
 /// "5 kind, facts, sub or byte 3; 6 kinds 20–22."
-fn check_records(records: &[Record], logicals: bool) -> Result<(), u8> {
+fn check_records<const W: usize>(records: &[Record<W>], logicals: bool) -> Result<(), u8> {
     let mut any = false;
     for record in records {
         if !is_good(record) {
@@ -72,8 +99,8 @@ fn check_records(records: &[Record], logicals: bool) -> Result<(), u8> {
 }
 
 /// Of kinds 20 to 22, conditionals are taken; of a logical, "sub 0 stays 6 in both" (02, N1).
-fn is_left_out(record: &Record, logicals: bool) -> bool {
-    let [kind, _, sub, ..] = *record;
+fn is_left_out<const W: usize>(record: &Record<W>, logicals: bool) -> bool {
+    let (kind, sub) = (record[0], record[2]);
     kind == kind::ASSIGNMENT || kind == kind::LOGICAL && (sub == 0 || !logicals)
 }
 
@@ -88,8 +115,8 @@ const KINDS: usize = 23;
 /// Whether a record passes 5. The tables stand for the functions below, byte by byte: kinds
 /// follow each other irregularly, and a branch by kind would often be mispredicted.
 #[inline]
-fn is_good(record: &Record) -> bool {
-    let [kind, facts, sub, zero, ..] = *record;
+fn is_good<const W: usize>(record: &Record<W>) -> bool {
+    let (kind, facts, sub, zero) = (record[0], record[1], record[2], record[3]);
     match (GOOD_FACTS.get(kind as usize), GOOD_SUBS.get(kind as usize)) {
         (Some(good_facts), Some(good_subs)) => {
             let good_subs = good_subs[usize::from(facts & SYMBOL_YES != 0)];
@@ -188,7 +215,7 @@ const fn is_element_sub_good(sub: u8) -> bool {
 /// record's children, walked by their sizes, end exactly at its own end; with the root's size this
 /// makes the records one tree. Each record is a child once, and gets its depth then. Answers with the
 /// greatest.
-fn check_shape(tree: Tree) -> Result<usize, u8> {
+fn check_shape<const W: usize>(tree: Tree<W>) -> Result<usize, u8> {
     if tree.size(0) != tree.records.len() || !EXPRESSIONS.has(tree.kind(0)) {
         return Err(7);
     }
@@ -206,7 +233,7 @@ fn check_shape(tree: Tree) -> Result<usize, u8> {
 /// "A recorded 'yes' on one is refused as bad facts, for the addition just after the tree's shape is
 /// tested" (02, N9). A left child is the record behind its parent, so a chain of additions is a run of
 /// records: a string at any of its right sides, or at its end, is a part of each addition before.
-fn check_additions(tree: Tree) -> Result<(), u8> {
+fn check_additions<const W: usize>(tree: Tree<W>) -> Result<(), u8> {
     let mut yes = false;
     for i in 0..tree.records.len() {
         let goes_on = tree.is_addition(i);
@@ -219,7 +246,22 @@ fn check_additions(tree: Tree) -> Result<(), u8> {
     Ok(())
 }
 
-fn are_children_good(tree: Tree, i: usize, depths: &mut [u8; MAX_RECORDS]) -> bool {
+/// "17 when an end lies before its start, tested after the tree's shape and before its depth"
+/// (02, N6).
+fn check_spans<const W: usize>(tree: Tree<W>) -> Result<(), u8> {
+    let ends_before = |record: &Record<W>| {
+        let span = span_of(record);
+        span.end < span.start
+    };
+    let bad = W == WIDTH_2 && tree.records.iter().any(ends_before);
+    if bad { Err(17) } else { Ok(()) }
+}
+
+fn are_children_good<const W: usize>(
+    tree: Tree<W>,
+    i: usize,
+    depths: &mut [u8; MAX_RECORDS],
+) -> bool {
     let under = &UNDER[tree.kind(i) as usize];
     let (end, count) = (tree.after(i), tree.count(i));
     if end > tree.records.len() || !under.is_count_good(count, tree.sub(i)) {

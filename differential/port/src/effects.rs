@@ -1,7 +1,7 @@
 //! List effects: the effects of a tree in ECMA-262's order.
 
 use super::check::{Limits, check};
-use super::tree::{Tree, kind, sub};
+use super::tree::{AnyVersion, Tree, kind, sub};
 
 /// The listing's answer.
 #[derive(Clone, Copy, Debug, PartialEq, Eq)]
@@ -19,10 +19,14 @@ pub fn list_effects(file: &[u8], entries: &mut [u64]) -> Listed {
 
 /// The same where the places in `yes` count as yes: "any list" (02, N1).
 pub fn list_effects_given(file: &[u8], yes: &[u32], entries: &mut [u64]) -> Listed {
-    let tree = match check(file, Limits::LIST_EFFECTS) {
-        Ok(tree) => tree,
-        Err(number) => return Listed::Refused(number),
-    };
+    match check(file, Limits::LIST_EFFECTS) {
+        Ok(AnyVersion::Version1(tree)) => list(tree, yes, entries),
+        Ok(AnyVersion::Version2(tree)) => list(tree, yes, entries),
+        Err(number) => Listed::Refused(number),
+    }
+}
+
+fn list<const W: usize>(tree: Tree<W>, yes: &[u32], entries: &mut [u64]) -> Listed {
     // "10 under 2 × N entries lent."
     if entries.len() < 2 * tree.records.len() {
         return Listed::Refused(10);
@@ -32,19 +36,19 @@ pub fn list_effects_given(file: &[u8], yes: &[u32], entries: &mut [u64]) -> List
     Listed::Count(listing.count)
 }
 
-struct Listing<'a> {
-    tree: Tree<'a>,
+struct Listing<'a, const W: usize> {
+    tree: Tree<'a, W>,
     yes: &'a [u32],
     entries: &'a mut [u64],
     count: usize,
 }
 
-impl Listing<'_> {
+impl<const W: usize> Listing<'_, W> {
     /// "An effect is place × 512 + kind × 2 + 1 if a coercion; a coercion has the place and kind
     /// of the node coerced."
     #[inline]
     fn effect(&mut self, i: usize, coercion: bool) {
-        let (place, kind) = (self.tree.place(i), self.tree.kind(i));
+        let (place, kind) = (self.tree.start(i), self.tree.kind(i));
         self.entries[self.count] =
             u64::from(place) * 512 + u64::from(kind) * 2 + u64::from(coercion);
         self.count += 1;

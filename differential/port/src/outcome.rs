@@ -3,7 +3,7 @@
 //! The records are gone through from the last to the first, so that a node's children are decided
 //! before it; a node's outcome is that of reducing it, whether or not the reduction reaches it.
 
-use super::tree::{Tree, kind, sub};
+use super::tree::{AnyVersion, Tree, kind, sub};
 
 /// What a handler makes of its node.
 #[derive(Clone, Copy, Debug, PartialEq, Eq)]
@@ -103,19 +103,19 @@ impl Marks {
     /// "An addition on the left is a string if its left or its right is; any other side by its
     /// string fact."
     #[inline]
-    pub fn is_string(&self, tree: Tree, i: usize) -> bool {
+    pub fn is_string<const W: usize>(&self, tree: Tree<W>, i: usize) -> bool {
         if tree.is_addition(i) { self.0[i].has(IS_STRING) } else { tree.is_string(i) }
     }
 
     /// The flag of a side of an addition, "a folded left being taken as it then stands".
     #[inline]
-    pub fn is_flagged(&self, tree: Tree, i: usize) -> bool {
+    pub fn is_flagged<const W: usize>(&self, tree: Tree<W>, i: usize) -> bool {
         if tree.is_addition(i) { self.0[i].has(IS_FLAGGED) } else { tree.flagged(i) }
     }
 
     /// The node that stands, after the fold, where `i` stood.
     #[inline]
-    pub fn folded(&self, tree: Tree, mut i: usize) -> usize {
+    pub fn folded<const W: usize>(&self, tree: Tree<W>, mut i: usize) -> usize {
         while tree.is_addition(i) && self.gives_way(i) {
             i += 1;
         }
@@ -123,8 +123,17 @@ impl Marks {
     }
 }
 
-/// The marks of an accepted tree of at most 2,000 records.
-pub fn outcomes(tree: Tree) -> Marks {
+impl AnyVersion<'_> {
+    /// The marks of a tree of at most 2,000 records.
+    pub fn outcomes(self) -> Marks {
+        match self {
+            AnyVersion::Version1(tree) => outcomes(tree),
+            AnyVersion::Version2(tree) => outcomes(tree),
+        }
+    }
+}
+
+pub fn outcomes<const W: usize>(tree: Tree<W>) -> Marks {
     let mut marks = Marks([Mark::REMOVED; MAX_RECORDS]);
     for i in (0..tree.records.len()).rev() {
         marks.0[i] = mark(tree, &marks, i);
@@ -132,7 +141,7 @@ pub fn outcomes(tree: Tree) -> Marks {
     marks
 }
 
-fn mark(tree: Tree, marks: &Marks, i: usize) -> Mark {
+fn mark<const W: usize>(tree: Tree<W>, marks: &Marks, i: usize) -> Mark {
     match tree.kind(i) {
         // "This: removable unless the derived setting is on, flagged or not."
         kind::THIS => Mark::whole_if(tree.derived()),
@@ -154,7 +163,7 @@ fn mark(tree: Tree, marks: &Marks, i: usize) -> Mark {
 /// "Void and not become their reduced argument. Typeof of an identifier reference is removable,
 /// flagged or not; other typeof becomes its reduced argument. Others: removable exactly if not
 /// flagged."
-fn unary(tree: Tree, marks: &Marks, i: usize) -> Mark {
+fn unary<const W: usize>(tree: Tree<W>, marks: &Marks, i: usize) -> Mark {
     if tree.sub(i) == sub::OTHER_UNARY {
         return Mark::whole_if(tree.flagged(i));
     }
@@ -166,7 +175,7 @@ fn unary(tree: Tree, marks: &Marks, i: usize) -> Mark {
 }
 
 /// "Children reduced, removable ones dropped. One left stays a sequence of one; none is removable."
-fn sequence(tree: Tree, marks: &Marks, i: usize) -> Mark {
+fn sequence<const W: usize>(tree: Tree<W>, marks: &Marks, i: usize) -> Mark {
     if !tree.children(i).any(|child| marks.is_kept(child)) {
         return Mark::REMOVED;
     }
@@ -206,7 +215,7 @@ impl Pieces {
 
 /// "Elisions and unflagged spreads go, other elements are reduced. None left: removable. A spread
 /// left: stays an array. Else the one child, or a sequence at the array's place."
-fn array(tree: Tree, marks: &Marks, i: usize) -> Mark {
+fn array<const W: usize>(tree: Tree<W>, marks: &Marks, i: usize) -> Mark {
     let mut pieces = Pieces::NONE;
     for child in tree.children(i) {
         match tree.kind(child) {
@@ -223,7 +232,7 @@ fn array(tree: Tree, marks: &Marks, i: usize) -> Mark {
 /// possible symbol waits unreduced; others are reduced. Before each kept one, all waiting make a
 /// template ...; the rest wait until the end and take the template's place. None: removable; one:
 /// itself; else a sequence."
-fn template(tree: Tree, marks: &Marks, i: usize) -> Mark {
+fn template<const W: usize>(tree: Tree<W>, marks: &Marks, i: usize) -> Mark {
     if tree.count(i) == 0 {
         return Mark::REMOVED;
     }
@@ -253,7 +262,7 @@ fn template(tree: Tree, marks: &Marks, i: usize) -> Mark {
 /// Otherwise adjacent spreads, flagged or not, wait; the next property makes them an object at
 /// its own place, the end at the object's place. Property by property, its key node, then its
 /// value, is reduced. None, one, several as for templates."
-fn object(tree: Tree, marks: &Marks, i: usize) -> Mark {
+fn object<const W: usize>(tree: Tree<W>, marks: &Marks, i: usize) -> Mark {
     if tree.only_spreads(i) {
         return Mark::whole_if(tree.children(i).any(|spread| tree.flagged(spread)));
     }
@@ -278,7 +287,7 @@ fn object(tree: Tree, marks: &Marks, i: usize) -> Mark {
     pieces.mark()
 }
 
-fn binary(tree: Tree, marks: &Marks, i: usize) -> Mark {
+fn binary<const W: usize>(tree: Tree<W>, marks: &Marks, i: usize) -> Mark {
     match tree.sub(i) {
         // "Both sides reduced; two kept go to `join_sequence`."
         sub::COMPARISON => {
@@ -296,7 +305,7 @@ fn binary(tree: Tree, marks: &Marks, i: usize) -> Mark {
 /// "Unflagged: removable. Else `fold_string_addition_chain`, then removable exactly if a string
 /// literal remains. The fold goes down left children only." The fold is worked out for an
 /// unflagged addition too: it may be the left side of another.
-fn addition(tree: Tree, marks: &Marks, i: usize) -> Mark {
+fn addition<const W: usize>(tree: Tree<W>, marks: &Marks, i: usize) -> Mark {
     let (left, right) = (i + 1, tree.after(i + 1));
     let left_is_string = marks.is_string(tree, left);
     // "If the left is a string after its fold, an unflagged left becomes the empty literal at its
@@ -328,7 +337,7 @@ fn addition(tree: Tree, marks: &Marks, i: usize) -> Mark {
 /// the spread's place; none, one, several as above. An impure call is removable exactly if
 /// unflagged, and not if tree-shake-only is on and the callee is a function or arrow. An impure
 /// new always stays."
-fn call_or_new(tree: Tree, marks: &Marks, i: usize) -> Mark {
+fn call_or_new<const W: usize>(tree: Tree<W>, marks: &Marks, i: usize) -> Mark {
     if !tree.is_pure(i) {
         return Mark::whole_if(
             tree.kind(i) == kind::NEW || tree.flagged(i) || tree.is_preserved_iife(i),
@@ -347,7 +356,7 @@ fn call_or_new(tree: Tree, marks: &Marks, i: usize) -> Mark {
 
 /// "Else extracted: a flagged heritage; then per element a flagged computed key, then any static
 /// value, none of them reduced. None: removable. One or more: always a sequence."
-fn class(tree: Tree, i: usize) -> Mark {
+fn class<const W: usize>(tree: Tree<W>, i: usize) -> Mark {
     if tree.class_stays(i) {
         return Mark::of(Outcome::Whole);
     }
@@ -362,7 +371,7 @@ fn class(tree: Tree, i: usize) -> Mark {
 /// "Unflagged is removable. Else both arms are reduced: both gone leaves the reduced test, or
 /// removable if the test goes too. One gone leaves a logical node ... of the unreduced test and the
 /// arm that stays ... Neither gone keeps the conditional" (02, N1).
-fn conditional(tree: Tree, marks: &Marks, i: usize) -> Mark {
+fn conditional<const W: usize>(tree: Tree<W>, marks: &Marks, i: usize) -> Mark {
     if !tree.flagged(i) {
         return Mark::REMOVED;
     }

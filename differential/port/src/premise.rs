@@ -2,7 +2,7 @@
 //! empty effect list.
 
 use super::outcome::{Marks, Outcome};
-use super::tree::{Tree, kind, sub};
+use super::tree::{AnyVersion, Tree, kind, sub};
 
 /// A node whose clear flag was read.
 #[derive(Clone, Copy)]
@@ -12,19 +12,28 @@ pub struct Read {
     pub has_effects: bool,
 }
 
-/// Whether every node whose clear flag is read has an empty effect list where the places in `yes`
-/// count as yes: "the premise being read under the same list" (02, N1).
-pub fn premise(tree: Tree, marks: &Marks, yes: &[u32]) -> bool {
-    let mut holds = true;
-    reads(tree, marks, yes, &mut |read| holds &= !read.has_effects);
-    holds
+impl AnyVersion<'_> {
+    /// Whether every node whose clear flag is read has an empty effect list where the places in `yes`
+    /// count as yes: "the premise being read under the same list" (02, N1).
+    pub fn premise(self, marks: &Marks, yes: &[u32]) -> bool {
+        let mut holds = true;
+        self.reads(marks, yes, &mut |read| holds &= !read.has_effects);
+        holds
+    }
+
+    /// Tells of every node whose clear flag is read: "where, because of it, a node is removable, a
+    /// spread goes (alone or with its object), or a side of an addition is dropped or becomes the
+    /// empty literal, a folded left being taken as it then stands; also at heritage, computed keys
+    /// and static values of an extracted class."
+    pub fn reads(self, marks: &Marks, yes: &[u32], visit: &mut impl FnMut(Read)) {
+        match self {
+            AnyVersion::Version1(tree) => reads(tree, marks, yes, visit),
+            AnyVersion::Version2(tree) => reads(tree, marks, yes, visit),
+        }
+    }
 }
 
-/// Tells of every node whose clear flag is read: "where, because of it, a node is removable, a
-/// spread goes (alone or with its object), or a side of an addition is dropped or becomes the
-/// empty literal, a folded left being taken as it then stands; also at heritage, computed keys and
-/// static values of an extracted class."
-pub fn reads(tree: Tree, marks: &Marks, yes: &[u32], visit: &mut impl FnMut(Read)) {
+fn reads<const W: usize>(tree: Tree<W>, marks: &Marks, yes: &[u32], visit: &mut impl FnMut(Read)) {
     let mut facts = [Effectful::default(); MAX_RECORDS];
     for i in (0..tree.records.len()).rev() {
         facts[i] = effectful(tree, marks, yes, &facts, i);
@@ -42,7 +51,13 @@ struct Effectful {
     folded: bool,
 }
 
-fn effectful(tree: Tree, marks: &Marks, yes: &[u32], facts: &[Effectful], i: usize) -> Effectful {
+fn effectful<const W: usize>(
+    tree: Tree<W>,
+    marks: &Marks,
+    yes: &[u32],
+    facts: &[Effectful],
+    i: usize,
+) -> Effectful {
     let has = |i: usize| facts[i].recorded;
     let any = || tree.children(i).any(has);
     let own = tree.flagged(i);
@@ -68,7 +83,7 @@ fn effectful(tree: Tree, marks: &Marks, yes: &[u32], facts: &[Effectful], i: usi
 }
 
 /// The entry, besides those of its sides, that an addition with these sides has.
-fn addition_own(tree: Tree, marks: &Marks, i: usize) -> bool {
+fn addition_own<const W: usize>(tree: Tree<W>, marks: &Marks, i: usize) -> bool {
     let (left, right) = (i + 1, tree.after(i + 1));
     if marks.is_string(tree, left) {
         tree.possible_symbol(right)
@@ -79,12 +94,12 @@ fn addition_own(tree: Tree, marks: &Marks, i: usize) -> bool {
     }
 }
 
-fn addition(tree: Tree, marks: &Marks, facts: &[Effectful], i: usize) -> bool {
+fn addition<const W: usize>(tree: Tree<W>, marks: &Marks, facts: &[Effectful], i: usize) -> bool {
     tree.children(i).any(|side| facts[side].recorded) || addition_own(tree, marks, i)
 }
 
 /// The same of the addition as its fold leaves it.
-fn folded(tree: Tree, marks: &Marks, facts: &[Effectful], i: usize) -> bool {
+fn folded<const W: usize>(tree: Tree<W>, marks: &Marks, facts: &[Effectful], i: usize) -> bool {
     let (left, right) = (i + 1, tree.after(i + 1));
     let left_is_string = marks.is_string(tree, left);
     let left_emptied = left_is_string && !marks.is_flagged(tree, left);
@@ -96,7 +111,7 @@ fn folded(tree: Tree, marks: &Marks, facts: &[Effectful], i: usize) -> bool {
     left_has || !right_emptied && facts[right].recorded || addition_own(tree, marks, i)
 }
 
-fn class(tree: Tree, facts: &[Effectful], i: usize) -> bool {
+fn class<const W: usize>(tree: Tree<W>, facts: &[Effectful], i: usize) -> bool {
     let has = |node: Option<usize>| node.is_some_and(|node| facts[node].recorded);
     tree.is_decorated(i)
         || tree.has_arrow_heritage(i)
@@ -107,14 +122,14 @@ fn class(tree: Tree, facts: &[Effectful], i: usize) -> bool {
 }
 
 /// Goes where the reduction goes.
-struct Reader<'a, V> {
-    tree: Tree<'a>,
+struct Reader<'a, V, const W: usize> {
+    tree: Tree<'a, W>,
     marks: &'a Marks,
     facts: &'a [Effectful],
     visit: &'a mut V,
 }
 
-impl<V: FnMut(Read)> Reader<'_, V> {
+impl<V: FnMut(Read), const W: usize> Reader<'_, V, W> {
     /// The node's flag decides: if it is clear, it is read.
     fn flag(&mut self, i: usize) {
         if !self.tree.flagged(i) {

@@ -3,7 +3,8 @@
 use super::check::{Limits, check};
 use super::outcome::{Marks, Outcome, outcomes};
 use super::tree::{
-    HEADER_SIZE, LITERAL_FACTS, RECORD_SIZE, Record, Tree, count_of, kind, place_of, sub,
+    AnyVersion, HEADER_SIZE, LITERAL_FACTS, Record, Span, Tree, count_of, kind, set_span, span_of,
+    sub,
 };
 
 /// Reduce's answer.
@@ -19,12 +20,16 @@ pub enum Reduced {
 
 /// Reduces the file's tree into `out`.
 pub fn reduce(file: &[u8], out: &mut [u8]) -> Reduced {
-    let tree = match check(file, Limits::REDUCE) {
-        Ok(tree) => tree,
-        Err(number) => return Reduced::Refused(number),
-    };
-    // "9 output under 8 + 16 × (2 × N − 1) bytes."
-    if out.len() < HEADER_SIZE + RECORD_SIZE * (2 * tree.records.len() - 1) {
+    match check(file, Limits::REDUCE) {
+        Ok(AnyVersion::Version1(tree)) => reduce_tree(file, tree, out),
+        Ok(AnyVersion::Version2(tree)) => reduce_tree(file, tree, out),
+        Err(number) => Reduced::Refused(number),
+    }
+}
+
+fn reduce_tree<const W: usize>(file: &[u8], tree: Tree<W>, out: &mut [u8]) -> Reduced {
+    // "9 output under 8 + 16 × (2 × N − 1) bytes", and 20 for 16 in version 2 (02, N6).
+    if out.len() < HEADER_SIZE + W * (2 * tree.records.len() - 1) {
         return Reduced::Refused(9);
     }
     let marks = outcomes(tree);
@@ -37,14 +42,14 @@ pub fn reduce(file: &[u8], out: &mut [u8]) -> Reduced {
     let count = writer.end;
     header.copy_from_slice(&file[..HEADER_SIZE]);
     header[6..].copy_from_slice(&(count as u16).to_le_bytes());
-    Reduced::Kept(HEADER_SIZE + RECORD_SIZE * count)
+    Reduced::Kept(HEADER_SIZE + W * count)
 }
 
 /// Writes the reduced tree, record after record.
-struct Writer<'a> {
-    tree: Tree<'a>,
+struct Writer<'a, const W: usize> {
+    tree: Tree<'a, W>,
     marks: &'a Marks,
-    out: &'a mut [Record],
+    out: &'a mut [Record<W>],
     end: usize,
 }
 
@@ -79,7 +84,7 @@ impl List {
     }
 }
 
-impl Writer<'_> {
+impl<const W: usize> Writer<'_, W> {
     /// Writes the reduced expression; none if it is removable.
     fn expression(&mut self, i: usize) -> Option<Written> {
         match self.marks.outcome(i) {
@@ -113,22 +118,23 @@ impl Writer<'_> {
     }
 
     /// "Made nodes: text 0, symbol and string unknown, place that of the node rewritten unless
-    /// named; flag set if a child's is." The node's children stand behind it, up to `end`.
-    fn make(&mut self, list: &List, kind: u8, place: u32, end: usize) {
-        let mut record = [0; RECORD_SIZE];
+    /// named; flag set if a child's is." "Every made node copies both ends from the node that gave it
+    /// its place" (02, N6). The node's children stand behind it, up to `end`.
+    fn make(&mut self, list: &List, kind: u8, span: Span, end: usize) {
+        let mut record = [0; W];
         record[0] = kind;
         record[1] = list.flagged.into();
         record[4..6].copy_from_slice(&list.count.to_le_bytes());
         record[6..8].copy_from_slice(&((end - list.at) as u16).to_le_bytes());
-        record[12..].copy_from_slice(&place.to_le_bytes());
+        set_span(&mut record, span);
         self.out[list.at] = record;
     }
 
     /// "An empty literal has facts 18."
-    fn empty_literal(&mut self, place: u32) {
-        let mut record =
-            [kind::STRING_LITERAL, LITERAL_FACTS, 0, 0, 0, 0, 1, 0, 0, 0, 0, 0, 0, 0, 0, 0];
-        record[12..].copy_from_slice(&place.to_le_bytes());
+    fn empty_literal(&mut self, span: Span) {
+        let mut record = [0; W];
+        record[..8].copy_from_slice(&[kind::STRING_LITERAL, LITERAL_FACTS, 0, 0, 0, 0, 1, 0]);
+        set_span(&mut record, span);
         self.out[self.end] = record;
         self.end += 1;
     }
@@ -159,7 +165,7 @@ impl Writer<'_> {
         match self.marks.outcome(i) {
             Outcome::One => list.last,
             Outcome::Several => {
-                self.make(&list, kind::SEQUENCE, self.tree.place(i), self.end);
+                self.make(&list, kind::SEQUENCE, self.tree.span(i), self.end);
                 Written { flagged: list.flagged, child_flagged: list.flagged }
             }
             _ => {
@@ -202,20 +208,20 @@ impl Writer<'_> {
             let at = self.end;
             if let Some(kept) = self.expression(child) {
                 // "At the kept one's place after reduction."
-                self.flush_template(&mut list, waiting.take(), place_of(&self.out[at]), at);
+                self.flush_template(&mut list, waiting.take(), span_of(&self.out[at]), at);
                 list.add(kept);
             }
         }
         // "The rest wait until the end and take the template's place."
-        self.flush_template(&mut list, waiting, self.tree.place(i), self.end);
+        self.flush_template(&mut list, waiting, self.tree.span(i), self.end);
         self.close(i, list)
     }
 
     /// "All waiting make a template with text 0"; the flag is set "on every made template".
-    fn flush_template(&mut self, list: &mut List, waiting: Option<List>, place: u32, end: usize) {
+    fn flush_template(&mut self, list: &mut List, waiting: Option<List>, span: Span, end: usize) {
         if let Some(mut template) = waiting {
             template.flagged = true;
-            self.make(&template, kind::TEMPLATE, place, end);
+            self.make(&template, kind::TEMPLATE, span, end);
             list.add(Written { flagged: true, child_flagged: false });
         }
     }
@@ -229,19 +235,19 @@ impl Writer<'_> {
                 object.add(self.copy(child));
                 continue;
             }
-            self.flush_object(&mut list, waiting.take(), self.tree.place(child));
+            self.flush_object(&mut list, waiting.take(), self.tree.span(child));
             for key_or_value in self.tree.children(child) {
                 list.add_kept(self.expression(key_or_value));
             }
         }
-        self.flush_object(&mut list, waiting, self.tree.place(i));
+        self.flush_object(&mut list, waiting, self.tree.span(i));
         self.close(i, list)
     }
 
     /// "The next property makes them an object at its own place, the end at the object's place."
-    fn flush_object(&mut self, list: &mut List, waiting: Option<List>, place: u32) {
+    fn flush_object(&mut self, list: &mut List, waiting: Option<List>, span: Span) {
         if let Some(object) = waiting {
-            self.make(&object, kind::OBJECT, place, self.end);
+            self.make(&object, kind::OBJECT, span, self.end);
             list.add(Written { flagged: object.flagged, child_flagged: false });
         }
     }
@@ -272,7 +278,7 @@ impl Writer<'_> {
                 list.add_kept(self.expression(right));
             }
         }
-        self.make(&list, kind::SEQUENCE, self.tree.place(i), self.end);
+        self.make(&list, kind::SEQUENCE, self.tree.span(i), self.end);
         Written { flagged: list.flagged, child_flagged: list.flagged }
     }
 
@@ -321,7 +327,7 @@ impl Writer<'_> {
         if self.marks.is_flagged(self.tree, left) {
             self.folded(left);
         } else {
-            self.empty_literal(self.tree.place(self.marks.folded(self.tree, left)));
+            self.empty_literal(self.tree.span(self.marks.folded(self.tree, left)));
         }
     }
 
@@ -330,7 +336,7 @@ impl Writer<'_> {
         if self.tree.flagged(right) {
             self.copy(right);
         } else {
-            self.empty_literal(self.tree.place(right));
+            self.empty_literal(self.tree.span(right));
         }
     }
 
@@ -351,7 +357,7 @@ impl Writer<'_> {
     fn wrapped_spread(&mut self, spread: usize) -> Written {
         let mut array = self.begin();
         array.add(self.copy(spread));
-        self.make(&array, kind::ARRAY, self.tree.place(spread), self.end);
+        self.make(&array, kind::ARRAY, self.tree.span(spread), self.end);
         Written { flagged: array.flagged, child_flagged: false }
     }
 
@@ -388,7 +394,7 @@ impl Writer<'_> {
         if self.marks.outcome(i) == Outcome::Logical {
             // "A dropped consequent gives or, a dropped alternate and."
             let sub = if self.marks.is_kept(consequent) { sub::AND } else { sub::OR };
-            self.make_logical(&list, sub, self.tree.place(i));
+            self.make_logical(&list, sub, self.tree.span(i));
             return Some(Written { flagged: list.flagged, child_flagged: false });
         }
         self.stay(i, list.at, list.count);
@@ -396,8 +402,8 @@ impl Writer<'_> {
     }
 
     /// "A logical node (kind 20, sub 1 for and, 2 for or) ... takes the conditional's place."
-    fn make_logical(&mut self, list: &List, sub: u8, place: u32) {
-        self.make(list, kind::LOGICAL, place, self.end);
+    fn make_logical(&mut self, list: &List, sub: u8, span: Span) {
+        self.make(list, kind::LOGICAL, span, self.end);
         self.out[list.at][2] = sub;
     }
 }

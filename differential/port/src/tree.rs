@@ -1,12 +1,16 @@
 //! The tree file: fields of a record, and what the handlers ask of a node.
 //! Each reading of a fact is named once, here.
 
-/// "N records of 16 bytes, parent before children."
-pub type Record = [u8; 16];
+/// "N records of 16 bytes, parent before children"; "version 2 records have 20 bytes, the last four the
+/// end" (02, N6).
+pub type Record<const W: usize> = [u8; W];
 
-/// "Bytes 0–2 `UXT`; 3–4 version 1; 5 settings ...; 6–7 record count N."
+/// How many bytes a record of version 1 has, and one of version 2.
+pub const WIDTH_1: usize = 16;
+pub const WIDTH_2: usize = 20;
+
+/// "Bytes 0–2 `UXT`; 3–4 version ...; 5 settings ...; 6–7 record count N."
 pub const HEADER_SIZE: usize = 8;
-pub const RECORD_SIZE: usize = 16;
 
 /// "Kinds: 1 string literal, 2 identifier, ..."
 pub mod kind {
@@ -71,12 +75,26 @@ pub const LITERAL_FACTS: u8 = 18;
 
 /// An accepted tree: its records and its file's settings. A node is named by its record's index.
 #[derive(Clone, Copy)]
-pub struct Tree<'a> {
-    pub records: &'a [Record],
+pub struct Tree<'a, const W: usize> {
+    pub records: &'a [Record<W>],
     pub settings: u8,
 }
 
-impl<'a> Tree<'a> {
+/// The tree of a file of version 1 or of version 2.
+#[derive(Clone, Copy)]
+pub enum AnyVersion<'a> {
+    Version1(Tree<'a, WIDTH_1>),
+    Version2(Tree<'a, WIDTH_2>),
+}
+
+/// Where a node stands. A record of version 1 has no end; its start is here for both.
+#[derive(Clone, Copy, PartialEq, Eq)]
+pub struct Span {
+    pub start: u32,
+    pub end: u32,
+}
+
+impl<'a, const W: usize> Tree<'a, W> {
     #[inline]
     pub fn kind(self, i: usize) -> u8 {
         self.records[i][0]
@@ -107,13 +125,18 @@ impl<'a> Tree<'a> {
 
     #[inline]
     pub fn text(self, i: usize) -> u32 {
-        let r = &self.records[i];
-        u32::from_le_bytes([r[8], r[9], r[10], r[11]])
+        number_of(&self.records[i], 8)
     }
 
     #[inline]
-    pub fn place(self, i: usize) -> u32 {
-        place_of(&self.records[i])
+    pub fn span(self, i: usize) -> Span {
+        span_of(&self.records[i])
+    }
+
+    /// What effects and the places that count as yes go by: "effects still carry the start" (02, N6).
+    #[inline]
+    pub fn start(self, i: usize) -> u32 {
+        self.span(i).start
     }
 
     /// The node after `i` and all that is under it.
@@ -123,7 +146,7 @@ impl<'a> Tree<'a> {
     }
 
     #[inline]
-    pub fn children(self, i: usize) -> Children<'a> {
+    pub fn children(self, i: usize) -> Children<'a, W> {
         Children { tree: self, next: i + 1, end: self.after(i) }
     }
 
@@ -245,7 +268,7 @@ impl<'a> Tree<'a> {
     /// lent the places that count as yes, any list, other test places being no"; of a logical, "its
     /// right side running on yes for and, on no for or" (02, N1).
     pub fn arm_run(self, i: usize, yes: &[u32]) -> Option<usize> {
-        let is_yes = yes.contains(&self.place(i + 1));
+        let is_yes = yes.contains(&self.start(i + 1));
         match (self.kind(i), self.sub(i)) {
             (kind::CONDITIONAL, _) => {
                 let [_, consequent, alternate] = self.test_and_arms(i);
@@ -261,7 +284,7 @@ impl<'a> Tree<'a> {
     }
 
     /// The elements of a class.
-    pub fn elements(self, i: usize) -> Children<'a> {
+    pub fn elements(self, i: usize) -> Children<'a, W> {
         let first = self.heritage(i).map_or(i + 1, |heritage| self.after(heritage));
         Children { tree: self, next: first, end: self.after(i) }
     }
@@ -337,24 +360,38 @@ pub const fn is_never_symbol(kind: u8, sub: u8) -> bool {
 }
 
 #[inline]
-pub fn count_of(record: &Record) -> u16 {
+pub fn count_of<const W: usize>(record: &Record<W>) -> u16 {
     u16::from_le_bytes([record[4], record[5]])
 }
 
 #[inline]
-pub fn place_of(record: &Record) -> u32 {
-    u32::from_le_bytes([record[12], record[13], record[14], record[15]])
+fn number_of<const W: usize>(record: &Record<W>, at: usize) -> u32 {
+    u32::from_le_bytes([record[at], record[at + 1], record[at + 2], record[at + 3]])
+}
+
+#[inline]
+pub fn span_of<const W: usize>(record: &Record<W>) -> Span {
+    let start = number_of(record, 12);
+    Span { start, end: if W == WIDTH_2 { number_of(record, 16) } else { start } }
+}
+
+#[inline]
+pub fn set_span<const W: usize>(record: &mut Record<W>, span: Span) {
+    record[12..16].copy_from_slice(&span.start.to_le_bytes());
+    if W == WIDTH_2 {
+        record[16..].copy_from_slice(&span.end.to_le_bytes());
+    }
 }
 
 /// The children of a node, in order, by their subtree sizes.
 #[derive(Clone)]
-pub struct Children<'a> {
-    tree: Tree<'a>,
+pub struct Children<'a, const W: usize> {
+    tree: Tree<'a, W>,
     next: usize,
     end: usize,
 }
 
-impl Iterator for Children<'_> {
+impl<const W: usize> Iterator for Children<'_, W> {
     type Item = usize;
 
     #[inline]

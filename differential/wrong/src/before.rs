@@ -82,16 +82,16 @@ struct Changed {
 
 impl Changed {
     fn of(before: &dyn Side, drawn: Drawn) -> Changed {
-        let Drawn { file, lists, mut random } = drawn;
+        let Drawn { file, lists, mut random, .. } = drawn;
         let logicals = logicals::with_logicals(&mut random, &file);
         let files = [&file, &logicals];
         let listed = |yes: &Vec<u32>| {
             files.iter().any(|file| effects(&Port, file, yes) != effects(before, file, yes))
         };
         let tree = port::check(&file, Limits::REDUCE).expect("an accepted file");
-        let marks = port::outcomes(tree);
+        let marks = tree.outcomes();
         let premise =
-            |yes: &Vec<u32>| before.premise(&file, yes) != Some(port::premise(tree, &marks, yes));
+            |yes: &Vec<u32>| before.premise(&file, yes) != Some(tree.premise(&marks, yes));
         Changed {
             left: reduced(&Port, &file) != reduced(before, &file),
             effects: lists.iter().any(listed),

@@ -1,9 +1,9 @@
 //! Deliberately wrong ports, each a copy of the port with an edit of a line or two: the driver must
 //! find every one. The edits stand apart from the port, so that the port has no hooks for them.
 //!
-//! `wrong [--trees N] [--seed S] [--oracle PATH]` prints how many trees (each with a damaged copy, a
-//! copy with logicals, sixteen of the files of every kind with every facts byte and two Derived
-//! questions) it takes until the wrong port differs from the port; until a promise that holds of
+//! `wrong [--trees N] [--seed S] [--oracle PATH]` prints how many trees (each in both versions, with a
+//! damaged copy, a copy with logicals, sixteen of the files of every kind with every facts byte in both
+//! versions, and two Derived questions) it takes until the wrong port differs from the port; until a promise that holds of
 //! every answer is broken, with no other side at hand; where the oracle can see it, until it differs
 //! from the oracle; and how many cases of the fixed list it takes. It fails if one is not found by all
 //! that its edit names, of which the oracle counts where it is given, or if the port itself is found.
@@ -85,7 +85,7 @@ macro_rules! wrong {
 
             fn premise(&self, file: &[u8], yes: &[u32]) -> Option<bool> {
                 let tree = $port::check(file, $port::Limits::REDUCE).ok()?;
-                Some($port::premise(tree, &$port::outcomes(tree), yes))
+                Some(tree.premise(&tree.outcomes(), yes))
             }
         }
 

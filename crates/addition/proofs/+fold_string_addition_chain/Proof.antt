@@ -1,5 +1,4 @@
 -- The measure is the size of the tree at record `at`.
-use mathlib.Core.Path.{refl}
 use native.Mathlib.Omega.{arith}
 use borrow.Author.Needs.{needs}
 use Rattle.output.specs.Given.{given-inside}
@@ -69,7 +68,7 @@ subtree-at-requires-2 : (t : ℕ) → lts.Need-subtree-at-requires-2 (calls t) (
 subtree-at-requires-2 t c κs = right-inside _ _ (tells-addition (c .before .before .before .before .before .before .is-addition .ensures)) (c .before .before .before .before .before .if1 .taken) (c .before .before .before .before .before .before .before .before .before .pre .1) _ (c .before .before .before .before .subtree-at .ensures .0)
 
 fold-sides-requires : (t : ℕ) → lts.Need-fold-sides-requires (calls t) (called-at t) reads.Post
-fold-sides-requires t c κs = sides-given _ _ (tells-addition (c .before .before .before .before .before .before .before .before .is-addition .ensures)) (c .before .before .before .before .before .before .before .if1 .taken) (c .before .before .before .before .before .before .before .before .before .before .before .pre .1) _ (c .before .before .before .before .before .before .subtree-at .ensures .0) (c .before .before .before .before .fold-string-addition-chain .ensures) _ (c .before .subtree-at2 .ensures .0) refl
+fold-sides-requires t c κs = sides-given _ _ (tells-addition (c .before .before .before .before .before .before .before .before .is-addition .ensures)) (c .before .before .before .before .before .before .before .if1 .taken) (c .before .before .before .before .before .before .before .before .before .before .before .pre .1) _ (c .before .before .before .before .before .before .subtree-at .ensures .0) (c .before .before .before .before .fold-string-addition-chain .ensures) _ (c .before .subtree-at2 .ensures .0)
 
 same-length : (t : ℕ) → lts.Need-same-length (calls t) (called-at t) reads.Post
 same-length t c = search needs
@@ -87,7 +86,7 @@ returns-2 : (t : ℕ) → lts.Need-returns-2 (calls t) (called-at t) reads.Post
 returns-2 t c = fact-folds _ _ (tells-addition (c .before .before .before .before .before .before .before .before .before .before .before .before .before .is-addition .ensures)) (c .before .before .before .before .before .before .before .before .before .before .before .before .if1 .taken) (c .before .before .before .before .before .before .before .before .before .before .before .subtree-at .ensures .0) (c .before .before .before .before .before .before .subtree-at2 .ensures .0) (c .before .before .before .before .before .before .before .before .before .fold-string-addition-chain .ensures) (c .before .before .before .before .fold-sides .ensures) (c .before .if2 .left) _ (tells-string-fact (c .string-fact-at .ensures))
 
 copy-tree-requires : (t : ℕ) → lts.Need-copy-tree-requires (calls t) (called-at t) reads.Post
-copy-tree-requires t c κs = (c .before .before .before .before .before .pre .1 .input .inside, c .before .before .before .before .before .pre .1 .fits)
+copy-tree-requires t c κs = (c .before .before .before .before .before .pre .1 .input .inside, c .before .before .before .before .before .pre .1 .fits, c .before .before .before .before .before .pre .1 .same)
 
 string-fact-at-requires-2 : (t : ℕ) → lts.Need-string-fact-at-requires-2 (calls t) (called-at t) reads.Post
 string-fact-at-requires-2 t c κs = given-inside (c .before .before .before .before .before .before .before .before .pre .1)

@@ -1,3 +1,5 @@
+use mathlib.Core.Path.{refl}
+use Rattle.tree.specs.Room.{place-said}
 use Rattle.addition.specs.Sides.{one-inside, flagged-stays, clear-emptied}
 use native.Mathlib.Omega.{arith}
 use borrow.Author.Needs.{needs}
@@ -30,7 +32,7 @@ same-length-2 : tie.Need-same-length-2
 same-length-2 c = search needs
 
 returns-2 : tie.Need-returns-2
-returns-2 c = clear-emptied (c .before .before .before .before .before .before .before .before .before .before .pre) _ (tells-flagged (c .before .before .before .before .before .before .before .flagged-at .ensures)) (c .before .before .before .before .before .before .if1 .left) _ (c .before .before .before .before .place-at .ensures) (c .before .before .make-at .ensures)
+returns-2 c = clear-emptied (c .before .before .before .before .before .before .before .before .before .before .pre) _ (tells-flagged (c .before .before .before .before .before .before .before .flagged-at .ensures)) (c .before .before .before .before .before .before .if1 .left) _ (place-said (c .before .before .before .before .before .before .before .before .before .before .args .out .now) (c .before .before .before .before .before .before .before .before .before .before .args .out .now) (c .before .before .before .before .before .before .before .before .before .before .args .at) refl (c .before .before .before .before .place-at .ensures)) (c .before .before .make-at .ensures)
 
 pub empty-unless-flagged-spec : {M : Type 1} → statement M
 empty-unless-flagged-spec =

@@ -6,7 +6,7 @@ use Rattle.addition.proofs.fold_right.Statement.{statement}
 use Rattle.addition.proofs.fold_right.Tie as tie
 
 copy-tree-requires : tie.Need-copy-tree-requires
-copy-tree-requires c κs = (c .before .before .before .pre .input .inside, c .before .before .before .pre .fits)
+copy-tree-requires c κs = (c .before .before .before .pre .input .inside, c .before .before .before .pre .fits, c .before .before .before .pre .same)
 
 string-fact-at-requires : tie.Need-string-fact-at-requires
 string-fact-at-requires c κs = given-inside (c .before .before .before .before .before .before .pre)

@@ -1,7 +1,7 @@
 use native.Mathlib.Omega.{arith}
-use mathlib.Core.Path.{refl}
+use mathlib.Core.Path.{refl, _∙_}
 use Rattle.output.specs.Given.{given-node}
-use Rattle.addition.specs.Sides.{emptied-some, emptied-within, emptied-room, right-room, right-after, right-within, dropped-done, kept-done, other-done}
+use Rattle.addition.specs.Sides.{emptied-some, emptied-within, emptied-frame, right-frame, right-after, right-within, dropped-done, kept-done, other-done}
 use borrow.Author.Needs.{needs}
 use Rattle.addition.proofs.fold_sides.Statement.{statement}
 use Rattle.addition.proofs.fold_sides.Tie as tie
@@ -22,7 +22,7 @@ sub-move-down-2 : tie.Need-sub-move-down-2
 sub-move-down-2 c = omega (arith, emptied-some (c .before .before .before .before .before .before .before .before .before .before .pre .left) (c .before .before .before .before .before .empty-unless-flagged .ensures))
 
 move-down-requires : tie.Need-move-down-requires
-move-down-requires c κs = omega (arith, emptied-some (c .before .before .before .before .before .before .before .before .before .before .pre .left) (c .before .before .before .before .before .empty-unless-flagged .ensures), emptied-within (c .before .before .before .before .before .before .before .before .before .before .pre .left) (c .before .before .before .before .before .empty-unless-flagged .ensures), c .before .before .before .before .before .before .before .before .before .before .pre .left .inside, emptied-room (c .before .before .before .before .before .before .before .before .before .before .pre .left) (c .before .before .before .before .before .empty-unless-flagged .ensures))
+move-down-requires c κs = omega (arith, emptied-some (c .before .before .before .before .before .before .before .before .before .before .pre .left) (c .before .before .before .before .before .empty-unless-flagged .ensures), emptied-within (c .before .before .before .before .before .before .before .before .before .before .pre .left) (c .before .before .before .before .before .empty-unless-flagged .ensures), c .before .before .before .before .before .before .before .before .before .before .pre .left .inside, emptied-frame (c .before .before .before .before .before .before .before .before .before .before .pre .left) (c .before .before .before .before .before .empty-unless-flagged .ensures) .room)
 
 sub-result : tie.Need-sub-result
 sub-result c = omega (arith, emptied-some (c .before .before .before .before .before .before .before .before .before .before .before .before .before .pre .left) (c .before .before .before .before .before .before .before .before .empty-unless-flagged .ensures))
@@ -34,13 +34,13 @@ returns : tie.Need-returns
 returns c = dropped-done _ (c .before .before .before .before .before .before .before .before .before .before .if1 .taken) (c .before .before .before .before .before .before .before .before .empty-unless-flagged .ensures) _ (c .before .before .before .before .before .is-dropped-right .ensures) (c .before .before .before .before .if2 .taken) _ refl (c .before .before .move-down .ensures)
 
 copy-tree-requires : tie.Need-copy-tree-requires
-copy-tree-requires c κs = (c .before .before .before .before .before .before .before .before .before .before .pre .right-given .input .inside, omega (arith, emptied-within (c .before .before .before .before .before .before .before .before .before .before .pre .left) (c .before .before .before .before .before .empty-unless-flagged .ensures), c .before .before .before .before .before .before .before .before .before .before .pre .right-given .fits, emptied-room (c .before .before .before .before .before .before .before .before .before .before .pre .left) (c .before .before .before .before .before .empty-unless-flagged .ensures)))
+copy-tree-requires c κs = (c .before .before .before .before .before .before .before .before .before .before .pre .right-given .input .inside, omega (arith, emptied-within (c .before .before .before .before .before .before .before .before .before .before .pre .left) (c .before .before .before .before .before .empty-unless-flagged .ensures), c .before .before .before .before .before .before .before .before .before .before .pre .right-given .fits, emptied-frame (c .before .before .before .before .before .before .before .before .before .before .pre .left) (c .before .before .before .before .before .empty-unless-flagged .ensures) .room), emptied-frame (c .before .before .before .before .before .before .before .before .before .before .pre .left) (c .before .before .before .before .before .empty-unless-flagged .ensures) .same ∙ c .before .before .before .before .before .before .before .before .before .before .pre .right-given .same)
 
 sub-keep-at : tie.Need-sub-keep-at
 sub-keep-at c = omega (arith, emptied-some (c .before .before .before .before .before .before .before .before .before .before .before .before .before .before .pre .left) (c .before .before .before .before .before .before .before .before .before .empty-unless-flagged .ensures), c .before .before .before .copy-tree .ensures .ends)
 
 keep-at-requires : tie.Need-keep-at-requires
-keep-at-requires c κs = (c .before .before .before .before .before .before .before .before .before .before .before .before .before .before .pre .head-inside, omega (arith, c .before .before .before .before .before .before .before .before .before .before .before .before .before .before .pre .left .inside, c .before .before .before .before .before .before .before .before .before .before .before .before .before .before .pre .left .spans .ends, emptied-room (c .before .before .before .before .before .before .before .before .before .before .before .before .before .before .pre .left) (c .before .before .before .before .before .before .before .before .before .empty-unless-flagged .ensures), c .before .before .before .copy-tree .ensures .frame .room), omega arith, omega (arith, c .before .before .before .before .before .before .before .before .before .before .before .before .before .before .pre .small, emptied-within (c .before .before .before .before .before .before .before .before .before .before .before .before .before .before .pre .left) (c .before .before .before .before .before .before .before .before .before .empty-unless-flagged .ensures), c .before .before .before .copy-tree .ensures .ends))
+keep-at-requires c κs = (c .before .before .before .before .before .before .before .before .before .before .before .before .before .before .pre .head-inside, omega (arith, c .before .before .before .before .before .before .before .before .before .before .before .before .before .before .pre .left .inside, c .before .before .before .before .before .before .before .before .before .before .before .before .before .before .pre .left .spans .ends, emptied-frame (c .before .before .before .before .before .before .before .before .before .before .before .before .before .before .pre .left) (c .before .before .before .before .before .before .before .before .before .empty-unless-flagged .ensures) .room, c .before .before .before .copy-tree .ensures .frame .room), c .before .before .before .copy-tree .ensures .frame .same ∙ emptied-frame (c .before .before .before .before .before .before .before .before .before .before .before .before .before .before .pre .left) (c .before .before .before .before .before .before .before .before .before .empty-unless-flagged .ensures) .same ∙ c .before .before .before .before .before .before .before .before .before .before .before .before .before .before .pre .right-given .same, omega arith, omega (arith, c .before .before .before .before .before .before .before .before .before .before .before .before .before .before .pre .small, emptied-within (c .before .before .before .before .before .before .before .before .before .before .before .before .before .before .pre .left) (c .before .before .before .before .before .before .before .before .before .empty-unless-flagged .ensures), c .before .before .before .copy-tree .ensures .ends))
 
 same-length-2 : tie.Need-same-length-2
 same-length-2 c = search needs
@@ -55,7 +55,7 @@ sub-keep-at-2 : tie.Need-sub-keep-at-2
 sub-keep-at-2 c = omega (arith, right-after (c .before .before .before .before .before .before .before .before .pre .right-given) (c .before .before .before .fold-right .ensures), c .before .before .before .before .before .before .before .before .pre .left .spans .ends)
 
 keep-at-requires-2 : tie.Need-keep-at-requires-2
-keep-at-requires-2 c κs = (c .before .before .before .before .before .before .before .before .pre .head-inside, omega (arith, c .before .before .before .before .before .before .before .before .pre .left .inside, c .before .before .before .before .before .before .before .before .pre .left .spans .ends, right-room (c .before .before .before .before .before .before .before .before .pre .right-given) (c .before .before .before .fold-right .ensures)), omega arith, omega (arith, c .before .before .before .before .before .before .before .before .pre .small, right-within (c .before .before .before .before .before .before .before .before .pre .right-given) (c .before .before .before .fold-right .ensures)))
+keep-at-requires-2 c κs = (c .before .before .before .before .before .before .before .before .pre .head-inside, omega (arith, c .before .before .before .before .before .before .before .before .pre .left .inside, c .before .before .before .before .before .before .before .before .pre .left .spans .ends, right-frame (c .before .before .before .before .before .before .before .before .pre .right-given) (c .before .before .before .fold-right .ensures) .room), right-frame (c .before .before .before .before .before .before .before .before .pre .right-given) (c .before .before .before .fold-right .ensures) .same ∙ c .before .before .before .before .before .before .before .before .pre .right-given .same, omega arith, omega (arith, c .before .before .before .before .before .before .before .before .pre .small, right-within (c .before .before .before .before .before .before .before .before .pre .right-given) (c .before .before .before .fold-right .ensures)))
 
 same-length-3 : tie.Need-same-length-3
 same-length-3 c = search needs

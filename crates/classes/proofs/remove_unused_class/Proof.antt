@@ -33,10 +33,10 @@ sub-extract-elements-2 : tie.Need-sub-extract-elements-2
 sub-extract-elements-2 c = omega (arith, heritage-within (c .before .before .before .before .before .before .before .before .pre .kind-is) _ _ (c .before .before .before .before .before .sub-at .ensures .0) refl _ (c .before .before .before .before .first-size .ensures) (c .before .before .before .before .before .before .before .before .pre .given))
 
 extract-elements-requires : tie.Need-extract-elements-requires
-extract-elements-requires c κs = elements-given (c .before .before .before .before .before .before .before .before .before .pre .kind-is) _ _ (c .before .before .before .before .before .before .sub-at .ensures .0) refl _ (c .before .before .before .before .before .first-size .ensures) (c .before .before .before .before .before .before .before .before .before .pre .given) (c .before .before .before .copy-if-flagged .ensures) refl
+extract-elements-requires c κs = elements-given (c .before .before .before .before .before .before .before .before .before .pre .kind-is) _ _ (c .before .before .before .before .before .before .sub-at .ensures .0) refl _ (c .before .before .before .before .before .first-size .ensures) (c .before .before .before .before .before .before .before .before .before .pre .given) (c .before .before .before .copy-if-flagged .ensures)
 
 sequence-if-any-requires : tie.Need-sequence-if-any-requires
-sequence-if-any-requires c κs = list-given (c .before .before .before .before .before .before .before .before .before .before .before .before .before .pre .kind-is) _ _ (c .before .before .before .before .before .before .before .before .before .before .sub-at .ensures .0) refl _ (c .before .before .before .before .before .before .before .before .before .first-size .ensures) _ (c .before .before .before .before .before .before .before .copy-if-flagged .ensures) (c .before .before .before .extract-elements .ensures) (c .before .before .before .before .before .before .before .before .before .before .before .before .before .pre .given) refl
+sequence-if-any-requires c κs = list-given (c .before .before .before .before .before .before .before .before .before .before .before .before .before .pre .kind-is) _ _ (c .before .before .before .before .before .before .before .before .before .before .sub-at .ensures .0) refl _ (c .before .before .before .before .before .before .before .before .before .first-size .ensures) _ (c .before .before .before .before .before .before .before .copy-if-flagged .ensures) (c .before .before .before .extract-elements .ensures) (c .before .before .before .before .before .before .before .before .before .before .before .before .before .pre .given)
 
 same-length : tie.Need-same-length
 same-length c = search needs

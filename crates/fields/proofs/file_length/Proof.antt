@@ -1,7 +1,7 @@
 use mathlib.Core.Path.{ap}
 use Prim.Native.Nat.{ℕ, _+_, _*_}
 use native.Mathlib.Omega.{arith}
-use Rattle.tree.specs.Layout.{headerBytes, width, span, start}
+use Rattle.tree.specs.Layout.{headerBytes, span, start}
 use borrow.Author.Needs.{needs}
 use Rattle.fields.proofs.file_length.Statement.{statement}
 use Rattle.fields.proofs.file_length.Tie as tie
@@ -10,11 +10,11 @@ width-of-requires : tie.Need-width-of-requires
 width-of-requires c κs = search needs
 
 mul-result : tie.Need-mul-result
-unfolding start span width
+unfolding start span
 mul-result c = omega (arith, ap (λ (w : ℕ). w * c .before .before .args .n) (c .width-of .ensures))
 
 add-result : tie.Need-add-result
-unfolding start span width
+unfolding start span
 add-result c = omega (arith, ap (λ (w : ℕ). w * c .before .before .args .n) (c .width-of .ensures))
 
 returns : tie.Need-returns

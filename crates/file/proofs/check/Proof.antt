@@ -2,14 +2,14 @@
 use mathlib.Core.Path.{_≡_, sym, _∙_}
 use mathlib.Core.Bool.{true}
 use native.Mathlib.Omega.{arith}
-use borrow.Author.Tests.{not-true, not-false, eq-eqb, ne-eqb, lt-ltb, le-ltb}
+use borrow.Author.Tests.{not-true, not-false, lt-ltb, le-ltb}
 use Rattle.tree.specs.Below.{allBelow}
 use Rattle.tree.specs.Fields.{headAt}
-use Rattle.tree.specs.Record.{recordOk, taken}
+use Rattle.tree.specs.Record.{recordOk, taken, endOk}
 use Rattle.tree.specs.Refusal.{markOk, versionOk, settingsOk, shapeOk, additionsOk}
 use Rattle.tree.specs.Accepted.{mark-long}
 use Rattle.file.specs.Answer.{limitsOf}
-use Rattle.file.specs.Run.{refused-1, refused-2, refused-3, refused-4, Headed, headed-inside, headed-some, refused-5, refused-6, refused-7, whole, refused-5-again, held, refused-8, accepted-as}
+use Rattle.file.specs.Run.{refused-1, refused-2, refused-3, refused-4, Headed, headed-inside, headed-some, refused-5, refused-6, refused-7, whole, refused-5-again, held, refused-17, refused-8, accepted-as}
 use borrow.Author.Needs.{needs}
 use Rattle.file.proofs.check.Statement.{statement}
 use Rattle.file.proofs.check.Tie as tie
@@ -18,26 +18,25 @@ marked : (c : tie.Else1) → markOk (c .before .before .before .args .src .now) 
 marked c = sym (c .before .mark-ok .ensures) ∙ not-false _ (c .if1 .left)
 
 versioned : (c : tie.Else2) → versionOk (c .before .before .before .before .before .args .src .now) ≡ true
-unfolding versionOk
-versioned c = eq-eqb _ 1 (sym (c .before .get16 .ensures .0) ∙ c .if2 .left)
+versioned c = sym (c .before .version-ok .ensures) ∙ not-false _ (c .if2 .left)
 
 set-ok : (c : tie.Else3) → settingsOk (c .before .before .before .before .before .before .before .args .src .now) ≡ true
 unfolding settingsOk
 set-ok c = lt-ltb _ 8 (c .if3 .left)
 
-headed : (c : tie.Else4) → Headed (limitsOf (c .before .before .before .before .before .before .before .before .before .before .args .records) (c .before .before .before .before .before .before .before .before .before .before .args .depth) (c .before .before .before .before .before .before .before .before .before .before .args .logicals)) (c .before .before .before .before .before .before .before .before .before .before .args .src .now) (c .before .before .get162 .result)
+headed : (c : tie.Else4) → Headed (limitsOf (c .before .before .before .before .before .before .before .before .before .before .args .records) (c .before .before .before .before .before .before .before .before .before .before .args .depth) (c .before .before .before .before .before .before .before .before .before .before .args .logicals)) (c .before .before .before .before .before .before .before .before .before .before .args .src .now) (c .before .before .get16 .result)
 headed c = record {
   mark = marked (c .before .before .before .before .before .before .before);
   version = versioned (c .before .before .before .before .before);
   settings = set-ok (c .before .before .before);
   counted = sym (c .before .count-ok .ensures) ∙ not-false _ (c .if4 .left);
-  isN = c .before .before .get162 .ensures .0;
+  isN = c .before .before .get16 .ensures .0;
 }
 
-recorded : (c : tie.Else5) → allBelow (λ i. recordOk (headAt (c .before .before .before .before .before .before .before .before .before .before .before .before .args .src .now) i)) (c .before .before .before .before .get162 .result) ≡ true
+recorded : (c : tie.Else5) → allBelow (λ i. recordOk (headAt (c .before .before .before .before .before .before .before .before .before .before .before .before .args .src .now) i)) (c .before .before .before .before .get16 .result) ≡ true
 recorded c = sym (c .before .records-ok .ensures) ∙ not-false _ (c .if5 .left)
 
-inside : (c : tie.Else6) → allBelow (λ i. taken (c .before .before .before .before .before .before .before .before .before .before .before .before .before .before .args .logicals) (headAt (c .before .before .before .before .before .before .before .before .before .before .before .before .before .before .args .src .now) i)) (c .before .before .before .before .before .before .get162 .result) ≡ true
+inside : (c : tie.Else6) → allBelow (λ i. taken (c .before .before .before .before .before .before .before .before .before .before .before .before .before .before .args .logicals) (headAt (c .before .before .before .before .before .before .before .before .before .before .before .before .before .before .args .src .now) i)) (c .before .before .before .before .before .before .get16 .result) ≡ true
 inside c = sym (c .before .all-taken .ensures) ∙ not-false _ (c .if6 .left)
 
 shaped : (c : tie.Else7) → shapeOk (c .before .before .before .before .before .before .before .before .before .before .before .before .before .before .before .before .args .src .now) ≡ true
@@ -46,18 +45,20 @@ shaped c = sym (c .before .shape-ok .ensures) ∙ not-false _ (c .if7 .left)
 added : (c : tie.Else8) → additionsOk (c .before .before .before .before .before .before .before .before .before .before .before .before .before .before .before .before .before .before .args .src .now) ≡ true
 added c = sym (c .before .additions-ok .ensures) ∙ not-false _ (c .if8 .left)
 
+ended : (c : tie.Else9) → allBelow (λ i. endOk (headAt (c .before .before .before .before .before .before .before .before .before .before .before .before .before .before .before .before .before .before .before .before .args .src .now) i .place)) (c .before .before .before .before .before .before .before .before .before .before .before .before .get16 .result) ≡ true
+ended c = sym (c .before .ends-ok .ensures) ∙ not-false _ (c .if9 .left)
+
 mark-ok-requires : tie.Need-mark-ok-requires
 mark-ok-requires c κs = search needs
 
 returns : tie.Need-returns
 returns c = refused-1 _ _ (sym (c .before .mark-ok .ensures) ∙ not-true _ (c .if1 .taken))
 
-get16-requires : tie.Need-get16-requires
-get16-requires c κs = omega (arith, mark-long _ (marked (c)))
+version-ok-requires : tie.Need-version-ok-requires
+version-ok-requires c κs = mark-long _ (marked c)
 
 returns-2 : tie.Need-returns-2
-unfolding versionOk
-returns-2 c = refused-2 _ _ (marked (c .before .before)) (ne-eqb _ 1 (λ z. c .if2 .taken (c .before .get16 .ensures .0 ∙ z)))
+returns-2 c = refused-2 _ _ (marked (c .before .before)) (sym (c .before .version-ok .ensures) ∙ not-true _ (c .if2 .taken))
 
 shared-slice-read-settings : tie.Need-shared-slice-read-settings
 shared-slice-read-settings c = omega (arith, mark-long _ (marked (c .before .before .before)))
@@ -66,11 +67,11 @@ returns-3 : tie.Need-returns-3
 unfolding settingsOk
 returns-3 c = refused-3 _ _ (marked (c .before .before .before .before)) (versioned (c .before .before)) (le-ltb _ 8 (c .if3 .taken))
 
-get16-requires-2 : tie.Need-get16-requires-2
-get16-requires-2 c κs = omega (arith, mark-long _ (marked (c .before .before .before .before)))
+get16-requires : tie.Need-get16-requires
+get16-requires c κs = omega (arith, mark-long _ (marked (c .before .before .before .before)))
 
 count-ok-requires : tie.Need-count-ok-requires
-count-ok-requires c κs = search needs
+count-ok-requires c κs = (c .get16 .ensures .0, c .get16 .ensures .1, mark-long _ (marked (c .before .before .before .before .before)))
 
 returns-4 : tie.Need-returns-4
 returns-4 c = refused-4 _ _ (marked (c .before .before .before .before .before .before .before)) (versioned (c .before .before .before .before .before)) (set-ok (c .before .before .before)) (sym (c .before .count-ok .ensures) ∙ not-true _ (c .if4 .taken))
@@ -99,14 +100,20 @@ additions-ok-requires c κs = whole (headed (c .before .before .before .before .
 returns-8 : tie.Need-returns-8
 returns-8 c = refused-5-again (headed (c .before .before .before .before .before .before .before .before)) (recorded (c .before .before .before .before .before .before)) (inside (c .before .before .before .before)) (shaped (c .before .before)) (sym (c .before .additions-ok .ensures) ∙ not-true _ (c .if8 .taken))
 
-levels-ok-requires : tie.Need-levels-ok-requires
-levels-ok-requires c κs = held (headed (c .before .before .before .before .before .before .before .before)) (recorded (c .before .before .before .before .before .before)) (inside (c .before .before .before .before)) (shaped (c .before .before))
+ends-ok-requires : tie.Need-ends-ok-requires
+ends-ok-requires c κs = (mark-long _ (headed (c .before .before .before .before .before .before .before .before) .mark), headed-inside (headed (c .before .before .before .before .before .before .before .before)))
 
 returns-9 : tie.Need-returns-9
-returns-9 c = refused-8 (headed (c .before .before .before .before .before .before .before .before .before .before)) (recorded (c .before .before .before .before .before .before .before .before)) (inside (c .before .before .before .before .before .before)) (shaped (c .before .before .before .before)) (added (c .before .before)) _ (c .before .levels-ok .ensures) (not-true _ (c .if9 .taken))
+returns-9 c = refused-17 (headed (c .before .before .before .before .before .before .before .before .before .before)) (recorded (c .before .before .before .before .before .before .before .before)) (inside (c .before .before .before .before .before .before)) (shaped (c .before .before .before .before)) (added (c .before .before)) (sym (c .before .ends-ok .ensures) ∙ not-true _ (c .if9 .taken))
+
+levels-ok-requires : tie.Need-levels-ok-requires
+levels-ok-requires c κs = held (headed (c .before .before .before .before .before .before .before .before .before .before)) (recorded (c .before .before .before .before .before .before .before .before)) (inside (c .before .before .before .before .before .before)) (shaped (c .before .before .before .before))
 
 returns-10 : tie.Need-returns-10
-returns-10 c = accepted-as (headed (c .before .before .before .before .before .before .before .before .before .before)) (recorded (c .before .before .before .before .before .before .before .before)) (inside (c .before .before .before .before .before .before)) (shaped (c .before .before .before .before)) (added (c .before .before)) _ (c .before .levels-ok .ensures) (not-false _ (c .if9 .left))
+returns-10 c = refused-8 (headed (c .before .before .before .before .before .before .before .before .before .before .before .before)) (recorded (c .before .before .before .before .before .before .before .before .before .before)) (inside (c .before .before .before .before .before .before .before .before)) (shaped (c .before .before .before .before .before .before)) (added (c .before .before .before .before)) (ended (c .before .before)) _ (c .before .levels-ok .ensures) (not-true _ (c .if10 .taken))
+
+returns-11 : tie.Need-returns-11
+returns-11 c = accepted-as (headed (c .before .before .before .before .before .before .before .before .before .before .before .before)) (recorded (c .before .before .before .before .before .before .before .before .before .before)) (inside (c .before .before .before .before .before .before .before .before)) (shaped (c .before .before .before .before .before .before)) (added (c .before .before .before .before)) (ended (c .before .before)) _ (c .before .levels-ok .ensures) (not-false _ (c .if10 .left))
 
 pub check-spec : {M : Type 1} → statement M
 check-spec =
@@ -114,11 +121,11 @@ check-spec =
     (tie.spec
     mark-ok-requires
     returns
-    get16-requires
+    version-ok-requires
     returns-2
     shared-slice-read-settings
     returns-3
-    get16-requires-2
+    get16-requires
     count-ok-requires
     returns-4
     records-ok-requires
@@ -129,6 +136,8 @@ check-spec =
     returns-7
     additions-ok-requires
     returns-8
-    levels-ok-requires
+    ends-ok-requires
     returns-9
-    returns-10)
+    levels-ok-requires
+    returns-10
+    returns-11)

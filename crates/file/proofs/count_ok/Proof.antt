@@ -17,7 +17,7 @@ unfolding countOk
 returns-2 c = rw (← c .before .before .before .pre .0, lt-leb (c .before .before .before .args .n) (c .before .before .before .args .most) (c .if2 .taken), and-fails (leb 1 (c .before .before .before .args .n)) refl)
 
 file-length-requires : tie.Need-file-length-requires
-file-length-requires c κs = start-small _ (c .before .before .before .pre .1)
+file-length-requires c κs = (c .before .before .before .pre .2, start-small _ _ (c .before .before .before .pre .1))
 
 returns-3 : tie.Need-returns-3
 unfolding countOk

@@ -28,7 +28,7 @@ returns : tie.Need-returns
 returns c = refused-room _ _ _ (ap stated (sym (c .before .before .before .checked2 .given .1)) ∙ c .before .before .before .before .before .check .ensures) (record { small = λ i. omega (arith, c .before .before .before .before .before .before .before .shared-slice-known .given i) }) (c .before .file-length .ensures) (c .if1 .taken)
 
 reduce-by-size-requires : tie.Need-reduce-by-size-requires
-reduce-by-size-requires c κs = file-given _ _ _ (ap stated (sym (c .before .before .before .before .checked2 .given .1)) ∙ c .before .before .before .before .before .before .check .ensures) (record { small = λ i. omega (arith, c .before .before .before .before .before .before .before .before .shared-slice-known .given i) }) (c .before .before .file-length .ensures) (c .before .if1 .left)
+reduce-by-size-requires c κs = (file-given _ _ _ (ap stated (sym (c .before .before .before .before .checked2 .given .1)) ∙ c .before .before .before .before .before .before .check .ensures) (record { small = λ i. omega (arith, c .before .before .before .before .before .before .before .before .shared-slice-known .given i) }) (c .before .before .file-length .ensures) (c .before .if1 .left), c .before .before .file-length .ensures)
 
 returns-2 : tie.Need-returns-2
 returns-2 c = refused-file _ _ (record { small = λ i. omega (arith, c .before .before .before .before .before .shared-slice-known .given i) }) (ap stated (sym (c .before .checked .given .1)) ∙ c .before .before .before .check .ensures)

@@ -1,5 +1,5 @@
 use native.Mathlib.Omega.{arith}
-use Rattle.tree.specs.Layout.{width, span, start}
+use Rattle.reducer.specs.Answer.{most-enough}
 use Rattle.reducer.specs.Run.{count-bounds}
 use borrow.Author.Needs.{needs}
 use Rattle.reducer.proofs.reduce_by_size.Statement.{statement}
@@ -9,8 +9,7 @@ slice-aggregate-reduce-in : tie.Need-slice-aggregate-reduce-in
 slice-aggregate-reduce-in c = search needs
 
 reduce-in-requires : tie.Need-reduce-in-requires
-unfolding start span width
-reduce-in-requires c κs = search needs
+reduce-in-requires c κs = (c .before .before .before .before .before .pre .0, omega (arith, c .before .before .before .before .before .pre .1, c .before .before .if1 .taken))
 
 same-length : tie.Need-same-length
 same-length c = search needs
@@ -22,8 +21,7 @@ slice-aggregate-reduce-in-2 : tie.Need-slice-aggregate-reduce-in-2
 slice-aggregate-reduce-in-2 c = search needs
 
 reduce-in-requires-2 : tie.Need-reduce-in-requires-2
-unfolding start span width
-reduce-in-requires-2 c κs = search needs
+reduce-in-requires-2 c κs = (c .before .before .before .before .before .before .pre .0, omega (arith, c .before .before .before .before .before .before .pre .1, c .before .before .if2 .taken))
 
 same-length-2 : tie.Need-same-length-2
 same-length-2 c = search needs
@@ -35,8 +33,7 @@ slice-aggregate-reduce-in-3 : tie.Need-slice-aggregate-reduce-in-3
 slice-aggregate-reduce-in-3 c = search needs
 
 reduce-in-requires-3 : tie.Need-reduce-in-requires-3
-unfolding start span width
-reduce-in-requires-3 c κs = (c .before .before .before .before .before .before .pre, omega (arith, count-bounds (c .before .before .before .before .before .before .pre)))
+reduce-in-requires-3 c κs = (c .before .before .before .before .before .before .pre .0, most-enough _ _ (count-bounds (c .before .before .before .before .before .before .pre .0) .1))
 
 same-length-3 : tie.Need-same-length-3
 same-length-3 c = search needs

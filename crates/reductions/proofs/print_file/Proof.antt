@@ -5,10 +5,13 @@ use Rattle.reductions.proofs.print_file.Statement.{statement}
 use Rattle.reductions.proofs.print_file.Tie as tie
 
 abbrev Inv-loop : tie.InvT-loop
-Inv-loop bytes i₀ t3 i = i ≤ length bytes
+Inv-loop bytes ends i₀ t4 i = i ≤ length bytes
 
 abbrev μ-loop : tie.MeasureT-loop
-μ-loop bytes i₀ t3 i = length bytes - i
+μ-loop bytes ends i₀ t4 i = length bytes - i
+
+has-ends-requires : tie.Need-has-ends-requires Inv-loop μ-loop
+has-ends-requires c κs = search needs
 
 loop-holds : tie.Need-loop-holds Inv-loop μ-loop
 loop-holds c = search needs
@@ -21,6 +24,9 @@ print-byte-requires c κs = search needs
 
 add-i : tie.Need-add-i Inv-loop μ-loop
 add-i c = search needs
+
+ends-line-requires : tie.Need-ends-line-requires Inv-loop μ-loop
+ends-line-requires c κs = search needs
 
 slice-aggregate-write-all : tie.Need-slice-aggregate-write-all Inv-loop μ-loop
 slice-aggregate-write-all c = search needs
@@ -49,10 +55,12 @@ print-file-spec =
     (tie.spec
     Inv-loop
     μ-loop
+    has-ends-requires
     loop-holds
     shared-slice-read-print-byte
     print-byte-requires
     add-i
+    ends-line-requires
     slice-aggregate-write-all
     write-all-requires
     loop-less

@@ -3,7 +3,8 @@ use mathlib.Core.Bool.{Bool, true, not}
 use mathlib.Core.List.{List}
 use mathlib.Core.Path.{_≡_, _∙_}
 use lib.Dec.{eqb, ltb}
-use Rattle.tree.specs.Tree.{Tree, forest, one, allNodes, All}
+use Rattle.tree.specs.Tree.{Place, Tree, forest, one, allNodes, allHeads, All}
+use Rattle.tree.specs.Layout.{Version}
 use Rattle.tree.specs.Below.{and-left, and-right}
 use Rattle.tree.specs.Record.{symbolPair, symbolYes}
 use Rattle.tree.specs.Symbol.{additionAgrees, additionsAgree}
@@ -49,19 +50,33 @@ module _ (p : Tree → Bool) where
       (all-map (λ u x. everywhere-map (λ t (n : Node Passes t). n .1) u (x .0)) (reduce s t) (stays Passes made others s t (((g .0 .0, w .0), both), g .1))))
 
 -- Fields that fit: of a made node by its place.
-abbrev fits : Tree → Bool
-fits t = encodable (t .head)
+module _ (v : Version) where
+  abbrev fits : Tree → Bool
+  fits t = encodable v (t .head)
 
-made-fits : (t : Tree) → fits t ≡ true → MadeAt (Passes fits) (placeOf t)
-unfolding encodable
-made-fits t f k sub facts ek es ef ts = rw (ek, es, and-left (ltb facts 256) (not (eqb (symbolPair facts) 2)) ef, place-fits (t .head) f)
+  made-fits : (t : Tree) → fits t ≡ true → MadeAt (Passes fits) (placeOf t)
+  unfolding encodable
+  made-fits t f k sub facts ek es ef ts = rw (ek, es, and-left (ltb facts 256) (not (eqb (symbolPair facts) 2)) ef, place-fits v (t .head) f)
 
-others-fit : (t : Tree) → fits t ≡ true → (ts : List Tree) → SameString t ts → fits (withChildren t ts) ≡ true
-unfolding withChildren
-others-fit t f ts _ = f
+  others-fit : (t : Tree) → fits t ≡ true → (ts : List Tree) → SameString t ts → fits (withChildren t ts) ≡ true
+  unfolding withChildren
+  others-fit t f ts _ = f
 
-pub kept-encodable : (s : Settings) (t : Tree) → wellFormed t ≡ true → allEncodable (one t) ≡ true → allEncodable (forest (reduce s t)) ≡ true
-kept-encodable = kept-all fits made-fits others-fit
+  pub kept-encodable : (s : Settings) (t : Tree) → wellFormed t ≡ true → allEncodable v (one t) ≡ true → allEncodable v (forest (reduce s t)) ≡ true
+  kept-encodable = kept-all fits made-fits others-fit
+
+-- 02, N6: a test of places. A node is made at the place of another, so that it passes what that one does.
+module _ (q : Place → Bool) where
+  abbrev placed : Tree → Bool
+  placed t = q (placeOf t)
+
+  others-placed : (t : Tree) → placed t ≡ true → (ts : List Tree) → SameString t ts → placed (withChildren t ts) ≡ true
+  unfolding withChildren
+  others-placed t f ts _ = f
+
+  pub kept-places : (s : Settings) (t : Tree) → wellFormed t ≡ true → allHeads (λ h. q (h .place)) (one t) ≡ true
+      → allHeads (λ h. q (h .place)) (forest (reduce s t)) ≡ true
+  kept-places = kept-all placed (λ t f k sub facts _ _ _ ts. f) others-placed
 
 -- 02, N9: no addition with a string part records "yes".
 made-agrees : (t : Tree) → additionAgrees t ≡ true → MadeAt (Passes additionAgrees) (placeOf t)

@@ -97,7 +97,7 @@ SameString t ts = isAddition t ≡ true → isString (withChildren t ts) ≡ isS
 
 -- A node of another handler is no addition: of some children f the two handlers do not say the same.
 abbrev two : Forest
-two = let x = madeHead kind.literal 0 18 (record { start = 0 }) in node x nil (node x nil nil)
+two = let x = madeHead kind.literal 0 18 (record { start = 0; end = 0 }) in node x nil (node x nil nil)
 
 no-addition : (t : Tree) (k : Handler) (f : Forest) (ts : List Tree) → handler (t .head) ≡ k → kidsBy k (t .head) f ≡ not (kidsBy Handler.addition (t .head) f) → SameString t ts
 no-addition t k f ts e n a = absurd (no-fix (kidsBy Handler.addition (t .head) f) (ap (λ k. kidsBy k (t .head) f) (sym (addition-handled t a) ∙ e) ∙ n))

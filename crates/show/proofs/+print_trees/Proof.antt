@@ -34,10 +34,10 @@ print-trees-calls t = (
 )
 
 abbrev print-trees-Inv-loop : print-trees-lts.InvT-loop
-print-trees-Inv-loop src at size level out₀ used₀ end p₀ out used p = Left src size p end
+print-trees-Inv-loop src at size level ends out₀ used₀ end p₀ out used p = Left src size p end
 
 abbrev print-trees-μ-loop : print-trees-lts.MeasureT-loop
-print-trees-μ-loop src at size level out₀ used₀ end p₀ out used p = end - p
+print-trees-μ-loop src at size level ends out₀ used₀ end p₀ out used p = end - p
 
 print-trees-add-end : (t : ℕ) → print-trees-lts.Need-add-end (print-trees-calls t) (print-trees-at t) print-trees.Post print-trees-Inv-loop print-trees-μ-loop
 print-trees-add-end t c = omega (arith, c .before .pre .1 .0 .inside)

@@ -30,6 +30,10 @@ put-requires c κs = search needs
 enum-known-checked-2 : tie.Need-enum-known-checked-2
 enum-known-checked-2 c = search needs
 
+has-ends-requires : tie.Need-has-ends-requires
+has-ends-requires c κs =
+    file-held _ _ _ (ap stated (sym (c .before .checked2 .given .1)) ∙ c .before .before .before .check .ensures) (record { small = λ i. omega (arith, c .before .before .before .before .shared-slice-known .given i) }) .2
+
 cast-put-header : tie.Need-cast-put-header
 cast-put-header c = search needs
 
@@ -39,8 +43,7 @@ put-header-requires c κs = search needs
 print-trees-requires : tie.Need-print-trees-requires
 print-trees-requires c κs =
     let held =
-    file-held _ _ _ (ap stated (sym (c .before .before .before .before .checked2 .given .1)) ∙ c .before .before .before .before .before .before .check .ensures)
-    (record { small = λ i. omega (arith, c .before .before .before .before .before .before .before .shared-slice-known .given i) }) in
+    file-held _ _ _ (ap stated (sym (c .before .before .before .before .before .checked2 .given .1)) ∙ c .before .before .before .before .before .before .before .check .ensures) (record { small = λ i. omega (arith, c .before .before .before .before .before .before .before .before .shared-slice-known .given i) }) in
     (held .0, omega (arith, held .1))
 
 returns : tie.Need-returns
@@ -61,6 +64,7 @@ print-file-spec =
     slice-aggregate-put
     put-requires
     enum-known-checked-2
+    has-ends-requires
     cast-put-header
     put-header-requires
     print-trees-requires

@@ -1,9 +1,10 @@
 use mathlib.Core.Path.{_≡_, refl}
+use mathlib.Core.List.{List}
 use Prim.Native.Nat.{ℕ, _+_, _-_, _≤_}
 use native.Mathlib.Omega.{arith}
 use lib.ListN.{length, length-set}
-use Rattle.tree.specs.Layout.{width, span, start}
-use Rattle.tree.specs.Room.{roomIn, span-by, span-plus, span-one, start-next, span-inside}
+use Rattle.tree.specs.Layout.{versionIn, width, span, startIn}
+use Rattle.tree.specs.Room.{recordsIn, span-by, span-plus, span-one, start-next, span-inside, header-inside}
 use Rattle.output.specs.Bytes.{Shifting, shifting-none, shifting-more}
 use Rattle.output.specs.Records.{moved-records}
 use borrow.Author.Needs.{needs}
@@ -12,9 +13,9 @@ use Rattle.output.proofs.record.move_down.Tie as tie
 
 abbrev Inv-loop : tie.InvT-loop
 Inv-loop out₀ pos n to width′ end q₀ out q =
-    (to ≡ start pos)
-    × (width′ ≡ width)
-    × (end ≡ to + span n)
+    (to ≡ startIn out₀ pos)
+    × (width′ ≡ width (versionIn out₀))
+    × (end ≡ to + span (versionIn out₀) n)
     × (end + width′ ≤ length out₀)
     × (q ≤ end)
     × (length out ≡ length out₀)
@@ -23,26 +24,26 @@ Inv-loop out₀ pos n to width′ end q₀ out q =
 abbrev μ-loop : tie.MeasureT-loop
 μ-loop out₀ pos n to width end q₀ out q = end - q
 
--- The records to be moved, and the one that they are moved over, are within so many bytes.
-inside : (bytes pos n : ℕ) → pos + 1 + n ≤ roomIn bytes → start pos + span n + width ≤ bytes
-inside bytes pos n l = omega (arith, span-inside bytes pos (n + 1) (omega arith) (omega arith), span-plus n 1, span-one)
+-- The records to be moved, and the one that they are moved over, are within the bytes.
+inside : (s : List ℕ) (pos n : ℕ) → pos + 1 + n ≤ recordsIn s → startIn s pos + span (versionIn s) n + width (versionIn s) ≤ length s
+inside s pos n l = let v = versionIn s in omega (arith, span-inside v (length s) pos (n + 1) (omega arith) (omega arith), span-plus v n 1, span-one v)
 
 start-of-requires : tie.Need-start-of-requires Inv-loop μ-loop
 start-of-requires c κs = omega (arith, c .before .before .pre)
 
 width-of-requires : tie.Need-width-of-requires Inv-loop μ-loop
-width-of-requires c κs = search needs
+width-of-requires c κs = header-inside (c .before .before .before .before .args .out .now) (c .before .before .before .before .args .pos) (omega (arith, c .before .before .before .before .pre))
 
 mul-end : tie.Need-mul-end Inv-loop μ-loop
-mul-end c = omega (arith, span-by (c .before .before .before .before .before .args .n) (c .width-of .ensures), inside (length (c .before .before .before .before .before .args .out .now)) (c .before .before .before .before .before .args .pos) (c .before .before .before .before .before .args .n) (c .before .before .before .before .before .pre))
+mul-end c = omega (arith, span-by _ (c .before .before .before .before .before .args .n) (c .width-of .ensures), inside (c .before .before .before .before .before .args .out .now) (c .before .before .before .before .before .args .pos) (c .before .before .before .before .before .args .n) (c .before .before .before .before .before .pre))
 
 add-end : tie.Need-add-end Inv-loop μ-loop
-add-end c = omega (arith, c .before .before .start-of .ensures, span-by (c .before .before .before .before .before .args .n) (c .width-of .ensures), inside (length (c .before .before .before .before .before .args .out .now)) (c .before .before .before .before .before .args .pos) (c .before .before .before .before .before .args .n) (c .before .before .before .before .before .pre))
+add-end c = omega (arith, c .before .before .start-of .ensures, span-by _ (c .before .before .before .before .before .args .n) (c .width-of .ensures), inside (c .before .before .before .before .before .args .out .now) (c .before .before .before .before .before .args .pos) (c .before .before .before .before .before .args .n) (c .before .before .before .before .before .pre))
 
 loop-holds : tie.Need-loop-holds Inv-loop μ-loop
 loop-holds c =
-    let b = inside (length (c .before .before .before .before .before .args .out .now)) (c .before .before .before .before .before .args .pos) (c .before .before .before .before .before .args .n) (c .before .before .before .before .before .pre) in
-    let e = span-by (c .before .before .before .before .before .args .n) (c .width-of .ensures) in
+    let b = inside (c .before .before .before .before .before .args .out .now) (c .before .before .before .before .before .args .pos) (c .before .before .before .before .before .args .n) (c .before .before .before .before .before .pre) in
+    let e = span-by _ (c .before .before .before .before .before .args .n) (c .width-of .ensures) in
     (c .before .before .start-of .ensures .0, c .width-of .ensures, omega (arith, e), omega (arith, e, b, c .before .before .start-of .ensures, c .width-of .ensures), omega arith, refl, shifting-none _ _ _)
 
 add-out : tie.Need-add-out Inv-loop μ-loop
@@ -69,7 +70,7 @@ same-length c = c .before .loop .inv .5
 returns : tie.Need-returns Inv-loop μ-loop
 returns c =
     let i = c .before .loop .inv in
-    moved-records (omega (arith, i, start-next (c .before .before .before .before .before .before .before .args .pos))) (i .0) (omega (arith, i, c .loop-test .left)) (i .5) (i .6 .shifted)
+    moved-records refl (omega (arith, i, start-next (versionIn (c .before .before .before .before .before .before .before .args .out .now)) (c .before .before .before .before .before .before .before .args .pos))) (i .0) (omega (arith, i, c .loop-test .left)) (i .5) (i .6 .shifted)
 
 pub move-down-spec : {M : Type 1} → statement M
 move-down-spec =

@@ -1,3 +1,4 @@
+use Rattle.tree.specs.Room.{place-said}
 use Rattle.rules.specs.Made.{makeTemplate}
 use Rattle.reducer.specs.Close.{closing-waiting, closing-list, closed}
 use borrow.Author.Needs.{needs}
@@ -17,7 +18,7 @@ same-length : tie.Need-same-length
 same-length c = search needs
 
 returns : tie.Need-returns
-returns c = closed makeTemplate (c .before .before .before .before .before .before .flush-template .ensures) (c .before .before .before .before .before .before .before .before .place-at .ensures) (c .before .before .none-one-several .ensures)
+returns c = closed makeTemplate (c .before .before .before .before .before .before .flush-template .ensures) (place-said (c .before .before .before .before .before .before .before .before .before .before .before .args .src .now) (c .before .before .before .before .before .before .before .before .before .before .before .args .out .now) (c .before .before .before .before .before .before .before .before .before .before .before .args .at) (c .before .before .before .before .before .before .before .before .before .before .before .pre .same) (c .before .before .before .before .before .before .before .before .place-at .ensures)) (c .before .before .none-one-several .ensures)
 
 pub close-template-spec : {M : Type 1} → statement M
 close-template-spec =

@@ -2,7 +2,7 @@ use Rattle.handlers.specs.declared.outcome.Rewrite.the-variants.{Sequence, Arra
 use Rattle.handlers.specs.declared.outcome.Rewrite.the-variants as rewrites
 use Rattle.reducer.specs.Expression.{as-outcome, as-made, given-copy, inner-given, outer-given, whole-given, removable-done, unchanged-done, unwrapped-done, in-order-list, sequence-done, array-done, comparison-done, walked-given, template-done, object-done, callee-first, callee-within, arguments-given, arguments-list, arguments-done, addition-done, class-given, class-done}
 use Rattle.handlers.specs.declared.outcome.Outcome.the-variants.{Removable, Unchanged, Unwrapped, Rewritten, Arguments, Addition, Class, Conditional}
-use Rattle.reducer.specs.Conditional.{arms-within, consequent-given, alternate-given, test-given, test-room, both-gone, arms-given, conditional-done}
+use Rattle.reducer.specs.Conditional.{arms-within, consequent-given, alternate-given, test-given, test-same, test-room, both-gone, arms-given, conditional-done}
 use Rattle.reducer.specs.Children.{Walking, walk-start, walk-done, walk-subtree, child-some, child-within, child-given, walk-on}
 use mathlib.Core.Path.{refl}
 use native.Mathlib.Omega.{arith}
@@ -166,7 +166,7 @@ reduce-child-waits-at-requires : (t : ℕ) → reduce-child-lts.Need-waits-at-re
 reduce-child-waits-at-requires t c κs = child-node (c .before .before .pre .1)
 
 reduce-child-hold-requires : (t : ℕ) → reduce-child-lts.Need-hold-requires (reduce-child-calls t) (reduce-child-at t) reduce-child.Post
-reduce-child-hold-requires t c κs = (c .before .before .before .before .before .pre .1 .input .inside, child-fits (c .before .before .before .before .before .pre .1))
+reduce-child-hold-requires t c κs = (c .before .before .before .before .before .pre .1 .input .inside, child-fits (c .before .before .before .before .before .pre .1), c .before .before .before .before .before .pre .1 .same)
 
 reduce-child-same-length : (t : ℕ) → reduce-child-lts.Need-same-length (reduce-child-calls t) (reduce-child-at t) reduce-child.Post
 reduce-child-same-length t c = search needs
@@ -178,10 +178,10 @@ reduce-child-wraps-at-requires : (t : ℕ) → reduce-child-lts.Need-wraps-at-re
 reduce-child-wraps-at-requires t c κs = child-inside (c .before .before .before .before .pre .1)
 
 reduce-child-wrap-spread-requires : (t : ℕ) → reduce-child-lts.Need-wrap-spread-requires (reduce-child-calls t) (reduce-child-at t) reduce-child.Post
-reduce-child-wrap-spread-requires t c κs = (child-node (c .before .before .before .before .before .before .before .pre .1), c .before .before .before .before .before .before .before .pre .1 .input .inside, child-fits (c .before .before .before .before .before .before .before .pre .1), some-size (c .before .before .before .before .before .before .before .pre .1 .input), child-small (c .before .before .before .before .before .before .before .pre .1))
+reduce-child-wrap-spread-requires t c κs = (child-node (c .before .before .before .before .before .before .before .pre .1), c .before .before .before .before .before .before .before .pre .1 .input .inside, child-fits (c .before .before .before .before .before .before .before .pre .1), c .before .before .before .before .before .before .before .pre .1 .same, some-size (c .before .before .before .before .before .before .before .pre .1 .input), child-small (c .before .before .before .before .before .before .before .pre .1))
 
 reduce-child-settle-requires : (t : ℕ) → reduce-child-lts.Need-settle-requires (reduce-child-calls t) (reduce-child-at t) reduce-child.Post
-reduce-child-settle-requires t c κs = wrapped-given (c .before .before .before .wrap-spread .ensures) (c .before .before .before .before .before .before .before .before .before .before .before .pre .1) refl
+reduce-child-settle-requires t c κs = wrapped-given (c .before .before .before .wrap-spread .ensures) (c .before .before .before .before .before .before .before .before .before .before .before .pre .1)
 
 reduce-child-same-length-2 : (t : ℕ) → reduce-child-lts.Need-same-length-2 (reduce-child-calls t) (reduce-child-at t) reduce-child.Post
 reduce-child-same-length-2 t c = search needs
@@ -193,7 +193,7 @@ reduce-child-remove-unused-expression-requires : (t : ℕ) → reduce-child-lts.
 reduce-child-remove-unused-expression-requires t c κs = (omega (arith, c .before .before .before .before .before .before .before .pre .0), child-tree (c .before .before .before .before .before .before .before .pre .1))
 
 reduce-child-settle-requires-2 : (t : ℕ) → reduce-child-lts.Need-settle-requires-2 (reduce-child-calls t) (reduce-child-at t) reduce-child.Post
-reduce-child-settle-requires-2 t c κs = reduced-given (c .before .before .before .remove-unused-expression .ensures) (c .before .before .before .before .before .before .before .before .before .before .before .pre .1) refl
+reduce-child-settle-requires-2 t c κs = reduced-given (c .before .before .before .remove-unused-expression .ensures) (c .before .before .before .before .before .before .before .before .before .before .before .pre .1)
 
 reduce-child-same-length-3 : (t : ℕ) → reduce-child-lts.Need-same-length-3 (reduce-child-calls t) (reduce-child-at t) reduce-child.Post
 reduce-child-same-length-3 t c = search needs
@@ -272,10 +272,10 @@ reduce-conditional-remove-unused-expression-requires : (t : ℕ) → reduce-cond
 reduce-conditional-remove-unused-expression-requires t c κs = (omega (arith, c .before .before .before .before .before .pre .0, some-depth ((c .before .before .before .before .before .pre .1 .given) .input), arms-within (c .before .before .before .before .before .pre .1 .handles) (c .before .before .subtree-at .ensures .0) (c .before .subtree-at2 .ensures .0) (c .before .before .before .before .before .pre .1 .given)), consequent-given (c .before .before .before .before .before .pre .1 .handles) (c .before .before .subtree-at .ensures .0) (c .before .subtree-at2 .ensures .0) (c .before .before .before .before .before .pre .1 .given))
 
 reduce-conditional-remove-unused-expression-requires-2 : (t : ℕ) → reduce-conditional-lts.Need-remove-unused-expression-requires-2 (reduce-conditional-calls t) (reduce-conditional-at t) reduce-conditional.Post
-reduce-conditional-remove-unused-expression-requires-2 t c κs = (omega (arith, c .before .before .before .before .before .before .before .before .before .pre .0, some-depth ((c .before .before .before .before .before .before .before .before .before .pre .1 .given) .input), arms-within (c .before .before .before .before .before .before .before .before .before .pre .1 .handles) (c .before .before .before .before .before .before .subtree-at .ensures .0) (c .before .before .before .before .before .subtree-at2 .ensures .0) (c .before .before .before .before .before .before .before .before .before .pre .1 .given)), alternate-given (c .before .before .before .before .before .before .before .before .before .pre .1 .handles) (c .before .before .before .before .before .before .subtree-at .ensures .0) (c .before .before .before .before .before .subtree-at2 .ensures .0) _ (c .before .before .before .remove-unused-expression .ensures) (c .before .before .before .before .before .before .before .before .before .pre .1 .given) refl)
+reduce-conditional-remove-unused-expression-requires-2 t c κs = (omega (arith, c .before .before .before .before .before .before .before .before .before .pre .0, some-depth ((c .before .before .before .before .before .before .before .before .before .pre .1 .given) .input), arms-within (c .before .before .before .before .before .before .before .before .before .pre .1 .handles) (c .before .before .before .before .before .before .subtree-at .ensures .0) (c .before .before .before .before .before .subtree-at2 .ensures .0) (c .before .before .before .before .before .before .before .before .before .pre .1 .given)), alternate-given (c .before .before .before .before .before .before .before .before .before .pre .1 .handles) (c .before .before .before .before .before .before .subtree-at .ensures .0) (c .before .before .before .before .before .subtree-at2 .ensures .0) _ (c .before .before .before .remove-unused-expression .ensures) (c .before .before .before .before .before .before .before .before .before .pre .1 .given))
 
 reduce-conditional-remove-unused-expression-requires-3 : (t : ℕ) → reduce-conditional-lts.Need-remove-unused-expression-requires-3 (reduce-conditional-calls t) (reduce-conditional-at t) reduce-conditional.Post
-reduce-conditional-remove-unused-expression-requires-3 t c κs = (omega (arith, c .before .before .before .before .before .before .before .before .before .before .before .before .before .before .pre .0, some-depth ((c .before .before .before .before .before .before .before .before .before .before .before .before .before .before .pre .1 .given) .input), arms-within (c .before .before .before .before .before .before .before .before .before .before .before .before .before .before .pre .1 .handles) (c .before .before .before .before .before .before .before .before .before .before .before .subtree-at .ensures .0) (c .before .before .before .before .before .before .before .before .before .before .subtree-at2 .ensures .0) (c .before .before .before .before .before .before .before .before .before .before .before .before .before .before .pre .1 .given)), test-given (c .before .before .before .before .before .before .before .before .before .before .before .before .before .before .pre .1 .handles) (c .before .before .before .before .before .before .before .before .before .before .before .subtree-at .ensures .0) (c .before .before .before .before .before .before .before .before .before .before .subtree-at2 .ensures .0) _ (c .before .before .before .before .before .before .before .before .remove-unused-expression .ensures) (c .before .before .before .before .remove-unused-expression2 .ensures) (c .before .before .before .before .before .before .before .before .before .before .before .before .before .before .pre .1 .given) refl)
+reduce-conditional-remove-unused-expression-requires-3 t c κs = (omega (arith, c .before .before .before .before .before .before .before .before .before .before .before .before .before .before .pre .0, some-depth ((c .before .before .before .before .before .before .before .before .before .before .before .before .before .before .pre .1 .given) .input), arms-within (c .before .before .before .before .before .before .before .before .before .before .before .before .before .before .pre .1 .handles) (c .before .before .before .before .before .before .before .before .before .before .before .subtree-at .ensures .0) (c .before .before .before .before .before .before .before .before .before .before .subtree-at2 .ensures .0) (c .before .before .before .before .before .before .before .before .before .before .before .before .before .before .pre .1 .given)), test-given (c .before .before .before .before .before .before .before .before .before .before .before .before .before .before .pre .1 .handles) (c .before .before .before .before .before .before .before .before .before .before .before .subtree-at .ensures .0) (c .before .before .before .before .before .before .before .before .before .before .subtree-at2 .ensures .0) _ (c .before .before .before .before .before .before .before .before .remove-unused-expression .ensures) (c .before .before .before .before .remove-unused-expression2 .ensures) (c .before .before .before .before .before .before .before .before .before .before .before .before .before .before .pre .1 .given))
 
 reduce-conditional-same-length : (t : ℕ) → reduce-conditional-lts.Need-same-length (reduce-conditional-calls t) (reduce-conditional-at t) reduce-conditional.Post
 reduce-conditional-same-length t c = search needs
@@ -287,10 +287,10 @@ reduce-conditional-add-copy-records : (t : ℕ) → reduce-conditional-lts.Need-
 reduce-conditional-add-copy-records t c = omega (arith, arms-within (c .before .before .before .before .before .before .before .before .before .before .before .before .before .before .pre .1 .handles) (c .before .before .before .before .before .before .before .before .before .before .before .subtree-at .ensures .0) (c .before .before .before .before .before .before .before .before .before .before .subtree-at2 .ensures .0) (c .before .before .before .before .before .before .before .before .before .before .before .before .before .before .pre .1 .given), (c .before .before .before .before .before .before .before .before .before .before .before .before .before .before .pre .1 .given) .fits)
 
 reduce-conditional-copy-records-requires : (t : ℕ) → reduce-conditional-lts.Need-copy-records-requires (reduce-conditional-calls t) (reduce-conditional-at t) reduce-conditional.Post
-reduce-conditional-copy-records-requires t c κs = (omega (arith, arms-within (c .before .before .before .before .before .before .before .before .before .before .before .before .before .before .pre .1 .handles) (c .before .before .before .before .before .before .before .before .before .before .before .subtree-at .ensures .0) (c .before .before .before .before .before .before .before .before .before .before .subtree-at2 .ensures .0) (c .before .before .before .before .before .before .before .before .before .before .before .before .before .before .pre .1 .given), (c .before .before .before .before .before .before .before .before .before .before .before .before .before .before .pre .1 .given) .input .inside), test-room (c .before .before .before .before .before .before .before .before .before .before .before .before .before .before .pre .1 .handles) (c .before .before .before .before .before .before .before .before .before .before .before .subtree-at .ensures .0) (c .before .before .before .before .before .before .before .before .before .before .subtree-at2 .ensures .0) _ (c .before .before .before .before .before .before .before .before .remove-unused-expression .ensures) (c .before .before .before .before .remove-unused-expression2 .ensures) (c .before .before .before .before .before .before .before .before .before .before .before .before .before .before .pre .1 .given) refl)
+reduce-conditional-copy-records-requires t c κs = (omega (arith, arms-within (c .before .before .before .before .before .before .before .before .before .before .before .before .before .before .pre .1 .handles) (c .before .before .before .before .before .before .before .before .before .before .before .subtree-at .ensures .0) (c .before .before .before .before .before .before .before .before .before .before .subtree-at2 .ensures .0) (c .before .before .before .before .before .before .before .before .before .before .before .before .before .before .pre .1 .given), (c .before .before .before .before .before .before .before .before .before .before .before .before .before .before .pre .1 .given) .input .inside), test-room (c .before .before .before .before .before .before .before .before .before .before .before .before .before .before .pre .1 .handles) (c .before .before .before .before .before .before .before .before .before .before .before .subtree-at .ensures .0) (c .before .before .before .before .before .before .before .before .before .before .subtree-at2 .ensures .0) _ (c .before .before .before .before .before .before .before .before .remove-unused-expression .ensures) (c .before .before .before .before .remove-unused-expression2 .ensures) (c .before .before .before .before .before .before .before .before .before .before .before .before .before .before .pre .1 .given), test-same (c .before .before .before .before .before .before .before .before .before .before .before .before .before .before .pre .1 .handles) (c .before .before .before .before .before .before .before .before .before .before .before .subtree-at .ensures .0) (c .before .before .before .before .before .before .before .before .before .before .subtree-at2 .ensures .0) _ (c .before .before .before .before .before .before .before .before .remove-unused-expression .ensures) (c .before .before .before .before .remove-unused-expression2 .ensures) (c .before .before .before .before .before .before .before .before .before .before .before .before .before .before .pre .1 .given))
 
 reduce-conditional-join-arms-requires : (t : ℕ) → reduce-conditional-lts.Need-join-arms-requires (reduce-conditional-calls t) (reduce-conditional-at t) reduce-conditional.Post
-reduce-conditional-join-arms-requires t c κs = arms-given (c .before .before .before .before .before .before .before .before .before .before .before .before .before .before .before .before .before .before .pre .1 .handles) (c .before .before .before .before .before .before .before .before .before .before .before .before .before .before .before .subtree-at .ensures .0) (c .before .before .before .before .before .before .before .before .before .before .before .before .before .before .subtree-at2 .ensures .0) _ (c .before .before .before .before .before .before .before .before .before .before .before .before .remove-unused-expression .ensures) (c .before .before .before .before .before .before .before .before .remove-unused-expression2 .ensures) (c .before .before .before .copy-records .ensures) (c .before .before .before .before .before .before .before .before .before .before .before .before .before .before .before .before .before .before .pre .1 .given) refl (c .before .before .before .before .before .if1 .left)
+reduce-conditional-join-arms-requires t c κs = arms-given (c .before .before .before .before .before .before .before .before .before .before .before .before .before .before .before .before .before .before .pre .1 .handles) (c .before .before .before .before .before .before .before .before .before .before .before .before .before .before .before .subtree-at .ensures .0) (c .before .before .before .before .before .before .before .before .before .before .before .before .before .before .subtree-at2 .ensures .0) _ (c .before .before .before .before .before .before .before .before .before .before .before .before .remove-unused-expression .ensures) (c .before .before .before .before .before .before .before .before .remove-unused-expression2 .ensures) (c .before .before .before .copy-records .ensures) (c .before .before .before .before .before .before .before .before .before .before .before .before .before .before .before .before .before .before .pre .1 .given) (c .before .before .before .before .before .if1 .left)
 
 reduce-conditional-same-length-2 : (t : ℕ) → reduce-conditional-lts.Need-same-length-2 (reduce-conditional-calls t) (reduce-conditional-at t) reduce-conditional.Post
 reduce-conditional-same-length-2 t c = search needs
@@ -317,7 +317,7 @@ reduce-rewritten-reduce-children-requires : (t : ℕ) → reduce-rewritten-lts.N
 reduce-rewritten-reduce-children-requires t c κs = (omega (arith, c .before .before .before .before .before .pre .0, (c .before .before .before .before .before .pre .1 .given) .input .small, some-depth ((c .before .before .before .before .before .pre .1 .given) .input), some-size ((c .before .before .before .before .before .pre .1 .given) .input)), inner-given (c .before .before .before .before .before .pre .1 .given))
 
 reduce-rewritten-remove-unused-sequence-expr-requires : (t : ℕ) → reduce-rewritten-lts.Need-remove-unused-sequence-expr-requires (reduce-rewritten-calls t) (reduce-rewritten-at t) reduce-rewritten.Post
-reduce-rewritten-remove-unused-sequence-expr-requires t c κs = in-order-list (c .before .before .before .reduce-children .ensures) (c .before .before .before .before .before .before .before .before .before .pre .1 .given) refl
+reduce-rewritten-remove-unused-sequence-expr-requires t c κs = in-order-list (c .before .before .before .reduce-children .ensures) (c .before .before .before .before .before .before .before .before .before .pre .1 .given)
 
 reduce-rewritten-enum-told-2 : (t : ℕ) → reduce-rewritten-lts.Need-enum-told-2 (reduce-rewritten-calls t) (reduce-rewritten-at t) reduce-rewritten.Post
 reduce-rewritten-enum-told-2 t c = search needs
@@ -326,7 +326,7 @@ reduce-rewritten-reduce-children-requires-2 : (t : ℕ) → reduce-rewritten-lts
 reduce-rewritten-reduce-children-requires-2 t c κs = (omega (arith, c .before .before .before .before .before .pre .0, (c .before .before .before .before .before .pre .1 .given) .input .small, some-depth ((c .before .before .before .before .before .pre .1 .given) .input), some-size ((c .before .before .before .before .before .pre .1 .given) .input)), inner-given (c .before .before .before .before .before .pre .1 .given))
 
 reduce-rewritten-remove-unused-array-expr-requires : (t : ℕ) → reduce-rewritten-lts.Need-remove-unused-array-expr-requires (reduce-rewritten-calls t) (reduce-rewritten-at t) reduce-rewritten.Post
-reduce-rewritten-remove-unused-array-expr-requires t c κs = in-order-list (c .before .before .before .reduce-children2 .ensures) (c .before .before .before .before .before .before .before .before .before .pre .1 .given) refl
+reduce-rewritten-remove-unused-array-expr-requires t c κs = in-order-list (c .before .before .before .reduce-children2 .ensures) (c .before .before .before .before .before .before .before .before .before .pre .1 .given)
 
 reduce-rewritten-enum-told-3 : (t : ℕ) → reduce-rewritten-lts.Need-enum-told-3 (reduce-rewritten-calls t) (reduce-rewritten-at t) reduce-rewritten.Post
 reduce-rewritten-enum-told-3 t c = search needs
@@ -335,7 +335,7 @@ reduce-rewritten-reduce-children-requires-3 : (t : ℕ) → reduce-rewritten-lts
 reduce-rewritten-reduce-children-requires-3 t c κs = (omega (arith, c .before .before .before .before .before .pre .0, (c .before .before .before .before .before .pre .1 .given) .input .small, some-depth ((c .before .before .before .before .before .pre .1 .given) .input), some-size ((c .before .before .before .before .before .pre .1 .given) .input)), inner-given (c .before .before .before .before .before .pre .1 .given))
 
 reduce-rewritten-close-template-requires : (t : ℕ) → reduce-rewritten-lts.Need-close-template-requires (reduce-rewritten-calls t) (reduce-rewritten-at t) reduce-rewritten.Post
-reduce-rewritten-close-template-requires t c κs = walked-given (c .before .before .before .reduce-children3 .ensures) (c .before .before .before .before .before .before .before .before .before .pre .1 .given) refl
+reduce-rewritten-close-template-requires t c κs = walked-given (c .before .before .before .reduce-children3 .ensures) (c .before .before .before .before .before .before .before .before .before .pre .1 .given)
 
 reduce-rewritten-enum-told-4 : (t : ℕ) → reduce-rewritten-lts.Need-enum-told-4 (reduce-rewritten-calls t) (reduce-rewritten-at t) reduce-rewritten.Post
 reduce-rewritten-enum-told-4 t c = search needs
@@ -344,7 +344,7 @@ reduce-rewritten-reduce-children-requires-4 : (t : ℕ) → reduce-rewritten-lts
 reduce-rewritten-reduce-children-requires-4 t c κs = (omega (arith, c .before .before .before .before .before .pre .0, (c .before .before .before .before .before .pre .1 .given) .input .small, some-depth ((c .before .before .before .before .before .pre .1 .given) .input), some-size ((c .before .before .before .before .before .pre .1 .given) .input)), inner-given (c .before .before .before .before .before .pre .1 .given))
 
 reduce-rewritten-close-object-requires : (t : ℕ) → reduce-rewritten-lts.Need-close-object-requires (reduce-rewritten-calls t) (reduce-rewritten-at t) reduce-rewritten.Post
-reduce-rewritten-close-object-requires t c κs = walked-given (c .before .before .before .reduce-children4 .ensures) (c .before .before .before .before .before .before .before .before .before .pre .1 .given) refl
+reduce-rewritten-close-object-requires t c κs = walked-given (c .before .before .before .reduce-children4 .ensures) (c .before .before .before .before .before .before .before .before .before .pre .1 .given)
 
 reduce-rewritten-enum-told-5 : (t : ℕ) → reduce-rewritten-lts.Need-enum-told-5 (reduce-rewritten-calls t) (reduce-rewritten-at t) reduce-rewritten.Post
 reduce-rewritten-enum-told-5 t c = search needs
@@ -353,7 +353,7 @@ reduce-rewritten-reduce-children-requires-5 : (t : ℕ) → reduce-rewritten-lts
 reduce-rewritten-reduce-children-requires-5 t c κs = (omega (arith, c .before .before .before .before .before .pre .0, (c .before .before .before .before .before .pre .1 .given) .input .small, some-depth ((c .before .before .before .before .before .pre .1 .given) .input), some-size ((c .before .before .before .before .before .pre .1 .given) .input)), inner-given (c .before .before .before .before .before .pre .1 .given))
 
 reduce-rewritten-join-kept-requires : (t : ℕ) → reduce-rewritten-lts.Need-join-kept-requires (reduce-rewritten-calls t) (reduce-rewritten-at t) reduce-rewritten.Post
-reduce-rewritten-join-kept-requires t c κs = in-order-list (c .before .before .before .reduce-children5 .ensures) (c .before .before .before .before .before .before .before .before .before .pre .1 .given) refl
+reduce-rewritten-join-kept-requires t c κs = in-order-list (c .before .before .before .reduce-children5 .ensures) (c .before .before .before .before .before .before .before .before .before .pre .1 .given)
 
 reduce-rewritten-same-length : (t : ℕ) → reduce-rewritten-lts.Need-same-length (reduce-rewritten-calls t) (reduce-rewritten-at t) reduce-rewritten.Post
 reduce-rewritten-same-length t c = search needs
@@ -404,7 +404,7 @@ remove-unused-expression-enum-told-2 : (t : ℕ) → remove-unused-expression-lt
 remove-unused-expression-enum-told-2 t c = search needs
 
 remove-unused-expression-copy-tree-requires : (t : ℕ) → remove-unused-expression-lts.Need-copy-tree-requires (remove-unused-expression-calls t) (remove-unused-expression-at t) remove-unused-expression.Post
-remove-unused-expression-copy-tree-requires t c κs = (c .before .before .before .before .before .before .pre .1 .input .inside, given-copy (c .before .before .before .before .before .before .pre .1))
+remove-unused-expression-copy-tree-requires t c κs = (c .before .before .before .before .before .before .pre .1 .input .inside, given-copy (c .before .before .before .before .before .before .pre .1), c .before .before .before .before .before .before .pre .1 .same)
 
 remove-unused-expression-enum-told-3 : (t : ℕ) → remove-unused-expression-lts.Need-enum-told-3 (remove-unused-expression-calls t) (remove-unused-expression-at t) remove-unused-expression.Post
 remove-unused-expression-enum-told-3 t c = search needs
@@ -437,7 +437,7 @@ remove-unused-expression-reduce-children-requires-2 : (t : ℕ) → remove-unuse
 remove-unused-expression-reduce-children-requires-2 t c κs = (omega (arith, c .before .before .before .before .before .before .before .pre .0, c .before .before .before .before .before .before .before .pre .1 .input .small, some-depth (c .before .before .before .before .before .before .before .pre .1 .input), some-size (c .before .before .before .before .before .before .before .pre .1 .input)), arguments-given (as-outcome Arguments (c .before .before .enum-told4 .given .1) (c .before .before .before .before .handle .ensures)) _ (c .before .first-size .ensures) (c .before .before .before .before .before .before .before .pre .1))
 
 remove-unused-expression-none-one-several-requires : (t : ℕ) → remove-unused-expression-lts.Need-none-one-several-requires (remove-unused-expression-calls t) (remove-unused-expression-at t) remove-unused-expression.Post
-remove-unused-expression-none-one-several-requires t c κs = arguments-list (as-outcome Arguments (c .before .before .before .before .before .before .enum-told4 .given .1) (c .before .before .before .before .before .before .before .before .handle .ensures)) _ (c .before .before .before .before .before .first-size .ensures) (c .before .before .before .reduce-children2 .ensures) (c .before .before .before .before .before .before .before .before .before .before .before .pre .1) refl
+remove-unused-expression-none-one-several-requires t c κs = arguments-list (as-outcome Arguments (c .before .before .before .before .before .before .enum-told4 .given .1) (c .before .before .before .before .before .before .before .before .handle .ensures)) _ (c .before .before .before .before .before .first-size .ensures) (c .before .before .before .reduce-children2 .ensures) (c .before .before .before .before .before .before .before .before .before .before .before .pre .1)
 
 remove-unused-expression-enum-told-5 : (t : ℕ) → remove-unused-expression-lts.Need-enum-told-5 (remove-unused-expression-calls t) (remove-unused-expression-at t) remove-unused-expression.Post
 remove-unused-expression-enum-told-5 t c = search needs

@@ -1,3 +1,4 @@
+use Rattle.tree.specs.Room.{place-said}
 use Rattle.reducer.specs.Settled.{settled-waiting, settled-object, settled-in-order, settled-argument, settled-template, settles-as}
 use borrow.Author.Needs.{needs}
 use Rattle.reducer.proofs.walk.settle.Statement.{statement}
@@ -52,7 +53,7 @@ same-length-4 : tie.Need-same-length-4
 same-length-4 c = search needs
 
 returns-4 : tie.Need-returns-4
-returns-4 c = settles-as _ (c .before .before .before .before .before .enum-told4 .given .1) (settled-object (c .before .before .before .before .before .before .before .before .before .pre .list) (c .before .before .before .place-at .ensures) (c .before .before .flush-object .ensures))
+returns-4 c = settles-as _ (c .before .before .before .before .before .enum-told4 .given .1) (settled-object (c .before .before .before .before .before .before .before .before .before .pre .list) (place-said (c .before .before .before .before .before .before .before .before .before .args .src .now) (c .before .before .before .before .before .before .before .before .before .args .out .now) (c .before .before .before .before .before .before .before .before .before .args .at) (c .before .before .before .before .before .before .before .before .before .pre .same) (c .before .before .before .place-at .ensures)) (c .before .before .flush-object .ensures))
 
 pub settle-spec : {M : Type 1} → statement M
 settle-spec =

@@ -1,3 +1,5 @@
+use mathlib.Core.Path.{refl}
+use Rattle.tree.specs.Room.{place-said}
 use Rattle.reducer.specs.Settled.{settled-waiting, settled-inside, settled-gone, settled-left}
 use borrow.Author.Needs.{needs}
 use Rattle.reducer.proofs.walk.settle_kept.Statement.{statement}
@@ -16,7 +18,7 @@ same-length : tie.Need-same-length
 same-length c = search needs
 
 returns-2 : tie.Need-returns-2
-returns-2 c = settled-left (c .before .before .before .before .before .before .if1 .left) (c .before .before .before .before .place-at .ensures) (c .before .before .flush-template .ensures)
+returns-2 c = settled-left (c .before .before .before .before .before .before .if1 .left) (place-said (c .before .before .before .before .before .before .before .before .args .out .now) (c .before .before .before .before .before .before .before .before .args .out .now) (c .before .before .before .before .before .before .before .before .args .next) refl (c .before .before .before .before .place-at .ensures)) (c .before .before .flush-template .ensures)
 
 pub settle-kept-spec : {M : Type 1} → statement M
 settle-kept-spec =

@@ -1,3 +1,4 @@
+use Rattle.tree.specs.Room.{place-said}
 use Rattle.rewrite.specs.Arms.{arms-list, arms-made, consequent-gone, alternate-gone, both-stay}
 use borrow.Author.Needs.{needs}
 use Rattle.rewrite.proofs.arms.join_arms.Statement.{statement}
@@ -13,7 +14,7 @@ same-length : tie.Need-same-length
 same-length c = search needs
 
 returns : tie.Need-returns
-returns c = consequent-gone (c .before .before .before .place-at .ensures) (c .before .before .before .before .before .if1 .taken) (c .before .before .before .before .before .before .before .before .pre .some) (c .before .before .make-logical .ensures)
+returns c = consequent-gone (place-said (c .before .before .before .before .before .before .before .before .args .src .now) (c .before .before .before .before .before .before .before .before .args .out .now) (c .before .before .before .before .before .before .before .before .args .at) (c .before .before .before .before .before .before .before .before .pre .same) (c .before .before .before .place-at .ensures)) (c .before .before .before .before .before .if1 .taken) (c .before .before .before .before .before .before .before .before .pre .some) (c .before .before .make-logical .ensures)
 
 place-at-requires-2 : tie.Need-place-at-requires-2
 place-at-requires-2 c κs = search needs
@@ -25,7 +26,7 @@ same-length-2 : tie.Need-same-length-2
 same-length-2 c = search needs
 
 returns-2 : tie.Need-returns-2
-returns-2 c = alternate-gone (c .before .before .before .place-at2 .ensures) (c .before .before .before .before .before .before .if1 .left) (c .before .before .before .before .before .if2 .taken) (c .before .before .make-logical2 .ensures)
+returns-2 c = alternate-gone (place-said (c .before .before .before .before .before .before .before .before .before .args .src .now) (c .before .before .before .before .before .before .before .before .before .args .out .now) (c .before .before .before .before .before .before .before .before .before .args .at) (c .before .before .before .before .before .before .before .before .before .pre .same) (c .before .before .before .place-at2 .ensures)) (c .before .before .before .before .before .before .if1 .left) (c .before .before .before .before .before .if2 .taken) (c .before .before .make-logical2 .ensures)
 
 stays-with-requires : tie.Need-stays-with-requires
 stays-with-requires c κs = arms-list (c .before .before .before .before .before .pre)

@@ -1,5 +1,6 @@
 use mathlib.Core.Logic.{inl, inr, ⊎-elim}
 use native.Mathlib.Omega.{arith}
+use Rattle.tree.specs.Room.{place-said}
 use Rattle.rewrite.specs.Becomes.{list-made, list-after, first-inside, one-small, list-none, list-one, list-several}
 use borrow.Author.Needs.{needs}
 use Rattle.rewrite.proofs.close.close_list.Statement.{statement}
@@ -39,7 +40,7 @@ same-length-2 : tie.Need-same-length-2
 same-length-2 c = search needs
 
 returns-3 : tie.Need-returns-3
-returns-3 c = list-several (c .before .before .before .before .before .before .before .before .subtree-at .ensures .0) (c .before .before .before .before .before .before .before .before .before .before .if1 .left) _ (⊎-elim (λ x. inl (x .0 .taken, x .1)) (λ x. inr (x .0 .left, x .1)) (c .before .before .before .before .before .before .before .if2 .came)) (c .before .before .before .before .before .if3 .left) (c .before .before .before .place-at .ensures) (c .before .before .make-sequence .ensures)
+returns-3 c = list-several (c .before .before .before .before .before .before .before .before .subtree-at .ensures .0) (c .before .before .before .before .before .before .before .before .before .before .if1 .left) _ (⊎-elim (λ x. inl (x .0 .taken, x .1)) (λ x. inr (x .0 .left, x .1)) (c .before .before .before .before .before .before .before .if2 .came)) (c .before .before .before .before .before .if3 .left) (place-said (c .before .before .before .before .before .before .before .before .before .before .before .before .before .args .src .now) (c .before .before .before .before .before .before .before .before .before .before .before .before .before .args .out .now) (c .before .before .before .before .before .before .before .before .before .before .before .before .before .args .at) (c .before .before .before .before .before .before .before .before .before .before .before .before .before .pre .same) (c .before .before .before .place-at .ensures)) (c .before .before .make-sequence .ensures)
 
 pub close-list-spec : {M : Type 1} → statement M
 close-list-spec =

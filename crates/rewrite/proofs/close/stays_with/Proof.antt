@@ -19,7 +19,7 @@ sub-keep-at : tie.Need-sub-keep-at
 sub-keep-at c = omega (arith, list-after (c .before .before .before .before .before .before .pre))
 
 keep-at-requires : tie.Need-keep-at-requires
-keep-at-requires c κs = (c .before .before .before .before .before .before .pre .node-inside, omega (arith, list-after (c .before .before .before .before .before .before .pre), c .before .before .before .before .before .before .pre .inside), made-few (list-made (c .before .before .before .before .before .before .pre)) (c .before .count-trees .ensures), omega (arith, c .before .before .before .before .before .before .pre .small))
+keep-at-requires c κs = (c .before .before .before .before .before .before .pre .node-inside, omega (arith, list-after (c .before .before .before .before .before .before .pre), c .before .before .before .before .before .before .pre .inside), c .before .before .before .before .before .before .pre .same, made-few (list-made (c .before .before .before .before .before .before .pre)) (c .before .count-trees .ensures), omega (arith, c .before .before .before .before .before .before .pre .small))
 
 same-length : tie.Need-same-length
 same-length c = search needs

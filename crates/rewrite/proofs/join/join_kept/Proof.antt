@@ -1,4 +1,5 @@
 use native.Mathlib.Omega.{arith}
+use Rattle.tree.specs.Room.{place-said}
 use Rattle.rewrite.specs.Becomes.{list-after, first-inside, join-none}
 use Rattle.rewrite.specs.Join.{join-one, second-inside, pair-given, join-two, join-several}
 use borrow.Author.Needs.{needs}
@@ -42,7 +43,7 @@ same-length-2 : tie.Need-same-length-2
 same-length-2 c = search needs
 
 returns-3 : tie.Need-returns-3
-returns-3 c = join-two (c .before .before .before .before .before .before .before .before .before .subtree-at .ensures .0) (c .before .before .before .before .before .before .before .before .before .before .before .if1 .left) (c .before .before .before .before .before .before .before .before .if2 .left) _ (c .before .before .before .before .before .before .subtree-at2 .ensures .0) (c .before .before .before .before .before .if3 .taken) (c .before .before .before .place-at .ensures) (c .before .before .join-sequence .ensures)
+returns-3 c = join-two (c .before .before .before .before .before .before .before .before .before .subtree-at .ensures .0) (c .before .before .before .before .before .before .before .before .before .before .before .if1 .left) (c .before .before .before .before .before .before .before .before .if2 .left) _ (c .before .before .before .before .before .before .subtree-at2 .ensures .0) (c .before .before .before .before .before .if3 .taken) (place-said (c .before .before .before .before .before .before .before .before .before .before .before .before .before .before .args .src .now) (c .before .before .before .before .before .before .before .before .before .before .before .before .before .before .args .out .now) (c .before .before .before .before .before .before .before .before .before .before .before .before .before .before .args .at) (c .before .before .before .before .before .before .before .before .before .before .before .before .before .before .pre .same) (c .before .before .before .place-at .ensures)) (c .before .before .join-sequence .ensures)
 
 none-one-several-requires-2 : tie.Need-none-one-several-requires-2
 none-one-several-requires-2 c κs = search needs

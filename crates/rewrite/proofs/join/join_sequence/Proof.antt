@@ -33,7 +33,7 @@ same-length : tie.Need-same-length
 same-length c = search needs
 
 returns : tie.Need-returns
-returns c = joins-left _ refl (c .before .before .before .before .before .before .move-down .ensures) _ (c .before .before .before .before .before .before .before .before .before .kind-at .ensures .0) (c .before .before .before .before .before .before .before .before .if1 .taken) (c .before .before .make-sequence .ensures)
+returns c = joins-left _ refl (c .before .before .before .before .before .before .move-down .ensures) _ (c .before .before .before .before .before .before .before .before .before .kind-at .ensures .0) (c .before .before .before .before .before .before .before .before .if1 .taken) _ (c .before .before .make-sequence .ensures)
 
 kind-at-requires-2 : tie.Need-kind-at-requires-2
 kind-at-requires-2 c κs = omega (arith, pair-first (c .before .before .before .before .before .pre), pair-second (c .before .before .before .before .before .pre), c .before .before .before .before .before .pre .inside)
@@ -60,7 +60,7 @@ same-length-2 : tie.Need-same-length-2
 same-length-2 c = search needs
 
 returns-2 : tie.Need-returns-2
-returns-2 c = joins-right _ refl (c .before .before .before .before .before .before .move-down2 .ensures) _ (c .before .before .before .before .before .before .before .before .before .before .before .before .kind-at .ensures .0) (c .before .before .before .before .before .before .before .before .before .before .before .if1 .left) _ (c .before .before .before .before .before .before .before .before .before .kind-at2 .ensures .0) (c .before .before .before .before .before .before .before .before .if2 .taken) (c .before .before .make-sequence2 .ensures)
+returns-2 c = joins-right _ refl (c .before .before .before .before .before .before .move-down2 .ensures) _ (c .before .before .before .before .before .before .before .before .before .before .before .before .kind-at .ensures .0) (c .before .before .before .before .before .before .before .before .before .before .before .if1 .left) _ (c .before .before .before .before .before .before .before .before .before .kind-at2 .ensures .0) (c .before .before .before .before .before .before .before .before .if2 .taken) _ (c .before .before .make-sequence2 .ensures)
 
 make-sequence-requires-3 : tie.Need-make-sequence-requires-3
 make-sequence-requires-3 c κs = both-given (c .before .before .before .before .before .before .before .before .pre)

@@ -1,5 +1,6 @@
-use mathlib.Core.Path.{refl}
+use mathlib.Core.Path.{refl, _∙_}
 use native.Mathlib.Omega.{arith}
+use Rattle.tree.specs.Room.{place-said}
 use Rattle.rewrite.specs.Waiting.{wrapped-gone, wrapped-kept}
 use borrow.Author.Needs.{needs}
 use Rattle.readings.specs.Own.{tells-flagged}
@@ -31,7 +32,7 @@ same-length : tie.Need-same-length
 same-length c = search needs
 
 returns : tie.Need-returns
-returns c = wrapped-kept (tells-flagged (c .before .before .before .before .before .before .before .before .before .before .flagged-at .ensures)) (c .before .before .before .before .before .before .before .before .before .if1 .taken) (c .before .before .before .before .before .before .before .copy-tree .ensures) (c .before .before .before .place-at .ensures) refl (c .before .before .make-at .ensures)
+returns c = wrapped-kept (tells-flagged (c .before .before .before .before .before .before .before .before .before .before .flagged-at .ensures)) (c .before .before .before .before .before .before .before .before .before .if1 .taken) (c .before .before .before .before .before .before .before .copy-tree .ensures) (place-said (c .before .before .before .before .before .before .before .before .before .before .before .before .before .args .src .now) (c .before .before .before .before .before .before .before .copy-tree .last .1 .1 .1 .0) (c .before .before .before .before .before .before .before .before .before .before .before .before .before .args .at) (c .before .before .before .before .before .before .before .copy-tree .ensures .frame .same ∙ c .before .before .before .before .before .before .before .before .before .before .before .before .before .pre .3) (c .before .before .before .place-at .ensures)) refl (c .before .before .make-at .ensures)
 
 returns-2 : tie.Need-returns-2
 returns-2 c = wrapped-gone (tells-flagged (c .before .flagged-at .ensures)) (c .if1 .left)
