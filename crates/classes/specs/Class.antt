@@ -4,7 +4,6 @@ use mathlib.Core.List.{List}
 use Prim.Native.Nat.{ℕ, _+_, _-_, _/_, _%_, _<_, _≤_}
 use native.Mathlib.Omega.{arith}
 use Rattle.tree.specs.Tree.{Tree, trees, forest, one, records, forest-trees}
-use Rattle.tree.specs.Room.{recordsIn}
 use Rattle.tree.specs.Fields.{headAt}
 use Rattle.tree.specs.Children as children
 use Rattle.tree.specs.Kind as kind

@@ -11,7 +11,7 @@ use Rattle.le.specs.Le.{u16At, u32At, set16, set32}
 use Rattle.le.specs.Laws.{u16-same, u32-same, u16-set16, u32-set32, getD-set16-other, getD-set32-other, length-set16}
 use Rattle.tree.specs.Tree.{Place}
 use Rattle.tree.specs.Offset as offset
-use Rattle.tree.specs.Layout.{Version, v1, v2, versionBy, versionIn, width, start}
+use Rattle.tree.specs.Layout.{Version, v1, v2, versionIn, width, start}
 use Rattle.tree.specs.Fields.{placeIn, placeFrom, headAt}
 
 -- The first n bytes are as they were.

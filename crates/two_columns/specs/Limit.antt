@@ -7,8 +7,8 @@ use native.Mathlib.Omega.{arith}
 use lib.Dec.{leb, ltb}
 use lib.ListN.{length}
 use borrow.Author.Tests.{le-leb, lt-leb, leb-false, ltb-true, ltb-false}
-use Rattle.tree.specs.Below.{and-left, and-right}
-use Rattle.tree.specs.Layout.{Version, v1, v2, versionBy, versionIn, headerBytes}
+use Rattle.tree.specs.Below.{and-right}
+use Rattle.tree.specs.Layout.{Version, v1, v2, versionIn, headerBytes}
 use Rattle.tree.specs.Fields.{countOf}
 use Rattle.tree.specs.Refusal.{Limits, reduceLimits, programLimits, markOk, countOk, refusal}
 use Rattle.tree.specs.Accepted.{passed, counted-parts}

@@ -1,4 +1,3 @@
-use mathlib.Core.Path.{refl}
 use Rattle.tree.specs.Layout.{width}
 use borrow.Author.Needs.{needs}
 use Rattle.fields.proofs.width_of.Statement.{statement}

@@ -1,7 +1,6 @@
-use mathlib.Core.Path.{_≡_, refl, _∙_}
-use Prim.Native.Nat.{_≤_}
+use mathlib.Core.Path.{refl, _∙_}
 use native.Mathlib.Omega.{arith}
-use lib.ListN.{length, length-set}
+use lib.ListN.{length-set}
 use Rattle.tree.specs.Layout.{versionBy}
 use Rattle.tree.specs.Room.{fields-within}
 use Rattle.output.specs.Bytes.{made-of}

@@ -7,7 +7,6 @@ use Rattle.tree.specs.Layout.{versionIn, width, span, startIn}
 use Rattle.tree.specs.Room.{recordsIn, span-by, span-plus, span-one, start-next, span-inside, header-inside}
 use Rattle.output.specs.Bytes.{Shifting, shifting-none, shifting-more}
 use Rattle.output.specs.Records.{moved-records}
-use borrow.Author.Needs.{needs}
 use Rattle.output.proofs.record.move_down.Statement.{statement}
 use Rattle.output.proofs.record.move_down.Tie as tie
 

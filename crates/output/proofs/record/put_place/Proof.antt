@@ -1,11 +1,7 @@
-use mathlib.Core.Bool.{Bool, true, false}
-use mathlib.Core.Path.{_≡_, ap, sym}
-use Prim.Native.Nat.{ℕ, _≤_}
 use native.Mathlib.Omega.{arith}
-use lib.ListN.{length}
-use Rattle.tree.specs.Layout.{Version, versionBy, width}
+use Rattle.tree.specs.Layout.{versionBy, width}
 use Rattle.tree.specs.Room.{fields-within}
-use Rattle.output.specs.Bytes.{Placed, placed-start, placed-both}
+use Rattle.output.specs.Bytes.{placed-start, placed-both}
 use borrow.Author.Needs.{needs}
 use Rattle.output.proofs.record.put_place.Statement.{statement}
 use Rattle.output.proofs.record.put_place.Tie as tie
