@@ -1,4 +1,4 @@
--- The definitions, to be read beside 01; the rows and theorems over them; and their proofs.
+-- The definitions, to be read beside 01, and what the theorems of proofs/ speak of.
 pub mod Lists
 pub mod Settings
 pub mod Handler
@@ -11,6 +11,5 @@ pub mod Reduce
 pub mod Effects
 pub mod Reads
 pub mod ReadsBy
-pub mod Rows
+pub mod Results
 pub mod Theorems
-pub mod Proofs

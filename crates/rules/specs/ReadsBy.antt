@@ -1,4 +1,4 @@
--- What is read in reducing a node, handler by handler: all of it, and nothing else (Theorems.reads-exactly). An array, say, has no flag of
+-- What is read in reducing a node, handler by handler: all of it, and nothing else (Theorems.reads_exactly). An array, say, has no flag of
 -- its own read, whatever becomes of it.
 use Rattle.std.specs.Prelude.{Bool, cond, not, List, [], ◌∷◌, drop}
 use Rattle.tree.specs.Tree.{Tree, trees}

@@ -1,1 +1,3 @@
-// What is reduced, what is an effect, and the theorem that what goes has no effect: definitions and theorems, in specs/.
+// What is reduced, what is an effect, and the theorem that what goes has no effect: definitions in specs/, theorems in proofs/.
+
+#![tactic(auto)]

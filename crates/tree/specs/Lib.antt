@@ -15,4 +15,3 @@ pub mod Stands
 pub mod Encoding
 pub mod Accepted
 pub mod Walk
-pub mod Rows

@@ -1,1 +1,3 @@
-// The tree file: its definitions and theorems are in specs/.
+// The tree file: its definitions are in specs/, its theorems in proofs/.
+
+#![tactic(auto)]

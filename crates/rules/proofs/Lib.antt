@@ -1,0 +1,22 @@
+-- The theorems over the definitions and the rows, and behind them the proofs, handler by handler over the laws of the named predicates.
+pub mod Theorems
+pub mod Rows
+pub mod Lists
+pub mod Unfold
+pub mod Facts
+pub mod Everywhere
+pub mod Effects
+pub mod Called
+pub mod Given
+pub mod Addition
+pub mod Demand
+pub mod ReadFlags
+pub mod Scale
+pub mod Potential
+pub mod Bounds
+pub mod Counts
+pub mod Shape
+pub mod Stays
+pub mod Accepted
+pub mod Single
+pub mod Kept

@@ -1,0 +1,3 @@
+pub mod Encoding
+pub mod Accepted
+pub mod Rows
