@@ -12,8 +12,8 @@ use Rattle.rules.specs.Lists.{keep_if}
 use Rattle.rules.specs.Handler.{is_kind, is_literal}
 use Rattle.rules.specs.Made.{with_children}
 use Rattle.rules.specs.Addition.{emptied_unless_flagged, is_dropped_right, fold_sides, fold_rule, fold_string_addition_chain}
-use Rattle.rules.specs.Proofs.Lists.{by_cond}
-use Rattle.rules.specs.Proofs.Addition.{NoSides, by_chain, fold_sides_lem, is_string_stays, emptied_string, emptied_string_fact}
+use Rattle.rules.proofs.Lists.{by_cond}
+use Rattle.rules.proofs.Addition.{NoSides, by_chain, fold_sides_lem, is_string_stays, emptied_string, emptied_string_fact}
 use Rattle.readings.specs.Node.{Tells}
 use Rattle.readings.specs.Input.{Input, input_node}
 use Rattle.readings.specs.Split.{some_size}

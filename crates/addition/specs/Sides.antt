@@ -13,7 +13,7 @@ use Rattle.tree.specs.Kind as kind
 use Rattle.rules.specs.Facts.{flagged, possible_symbol}
 use Rattle.rules.specs.Made.{place_of, made_head, empty_literal, with_children}
 use Rattle.rules.specs.Addition.{emptied_unless_flagged, is_dropped_right, fold_sides}
-use Rattle.rules.specs.Proofs.Lists.{by_cond}
+use Rattle.rules.proofs.Lists.{by_cond}
 use Rattle.readings.specs.Node.{Tells}
 use Rattle.readings.specs.Input.{Input, input_node}
 use Rattle.output.specs.Records.{Before, MovedRecords, Recorded, before_all, before_less, before_trans}

@@ -1,4 +1,6 @@
 // `fold_string_addition_chain`, and the rule of an addition that uses it.
+#![tactic(auto)]
+
 ghost use Rattle.rules.specs.Addition.{is_dropped_right};
 ghost use Rattle.readings.specs.Node.{SomeNode, Tells};
 ghost use Rattle.output.specs.Given.{GivenTree};

@@ -1,4 +1,6 @@
 // Files that stand one behind the other, each behind its length, as the programs read them from standard input.
+#![tactic(auto)]
+
 ghost use Rattle.std.specs.Prelude.{◌≡◌, ◌≤◌, length};
 ghost use Rattle.cases.specs.Next.{next_of, next_case, next_part};
 

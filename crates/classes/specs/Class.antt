@@ -1,7 +1,7 @@
 -- An extracted class: its flagged heritage, then what its elements give, made a sequence if there is any.
 use Rattle.std.specs.Prelude.{◌≡◌, List, ℕ, ◌+◌, ◌-◌, ◌/◌, ◌%◌, ◌<◌, ◌≤◌}
 use Rattle.std.proofs.Common.{ap, ◌∙◌, arith}
-use Rattle.tree.specs.Tree.{Tree, trees, forest, one, records, forest_trees}
+use Rattle.tree.specs.Tree.{Tree, trees, one, records, forest_trees}
 use Rattle.tree.specs.Fields.{head_at}
 use Rattle.tree.specs.Children as children
 use Rattle.tree.specs.Kind as kind

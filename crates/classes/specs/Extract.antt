@@ -9,7 +9,7 @@ use Rattle.tree.specs.Fields.{head_at, subtree_at}
 use Rattle.rules.specs.Lists.{keep_if, filter, concat_map}
 use Rattle.rules.specs.Facts.{flagged}
 use Rattle.rules.specs.Class.{has_static_value, computed_key, static_value, extracted_of_element}
-use Rattle.rules.specs.Proofs.Lists.{by_cond}
+use Rattle.rules.proofs.Lists.{by_cond}
 use Rattle.readings.specs.Node.{Tells}
 use Rattle.readings.specs.Input.{Input, input_node}
 use Rattle.readings.specs.First.{first_size, GivenFirst}

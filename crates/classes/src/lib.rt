@@ -1,4 +1,6 @@
 // `remove_unused_class`: what a class gives up where it is not kept.
+#![tactic(auto)]
+
 ghost use Rattle.output.specs.Given.{GivenList, GivenTree};
 ghost use Rattle.classes.specs.Extract.{GivenAtMostOne, CopiesFlagged, ExtractsElement, ExtractsElements};
 ghost use Rattle.classes.specs.Class.{GivenClass, RemovesClass};

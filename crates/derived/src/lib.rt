@@ -1,5 +1,7 @@
 // The Derived question: does `this`, where it is used, belong to the constructor of a derived class?
 // Only there does reading it before `super()` throw, so only there must it be kept.
+#![tactic(auto)]
+
 ghost use Rattle.std.specs.Prelude.{◌≡◌};
 ghost use Rattle.derived.specs.Bytes.{any_over};
 ghost use Rattle.derived.specs.Scopes.{is_block, is_arrow, is_constructor, is_skipped, this_scope_is_constructor};

@@ -50,17 +50,17 @@ module _ {s : List ℕ} {at size depth : ℕ} {st : Settings} (when : Bool) (p :
     test_given = record { forest = one A.test; input = A.test_in; fits = omega (arith, arm_length) }
 
   -- The arm stands from record x on, in z records.
-  module _ (x z : ℕ) (Arm-in : (t : Tree) (i : Input s at size depth (one t)) → Input s x z (depth - 1) (one (arm_of (arms t i))))
+  module _ (x z : ℕ) (arm_in : (t : Tree) (i : Input s at size depth (one t)) → Input s x z (depth - 1) (one (arm_of (arms t i))))
       {old mid : List ℕ} {pos next : ℕ} (a : ListedChildren s (at + 1) q (depth - 1) st InOrder old mid pos next) where
     arm_given : {room : ℕ} → GivenTree s at size depth st InOrder pos room → GivenChildren s x z (depth - 1) st InOrder next room
     arm_given g = record {
       forest = one (arm_of (A g));
-      input = Arm-in g.tree g.input;
+      input = arm_in g.tree g.input;
       fits = omega (arith, arm_length g, (a.by (one (A g).test) (A g).test_in).ends);
     }
 
     arm_done : {new : List ℕ} {r : ℕ} → ListedChildren s x z (depth - 1) st InOrder mid new next r → ListedTree s at size depth st InOrder old new pos r
-    arm_done b = record { by = λ t i. wrote_as (wrote_both (a.by (one (arms t i).test) (arms t i).test_in) (b.by (one (arm_of (arms t i))) (Arm-in t i))) (sym (arm_list t i)) }
+    arm_done b = record { by = λ t i. wrote_as (wrote_both (a.by (one (arms t i).test) (arms t i).test_in) (b.by (one (arm_of (arms t i))) (arm_in t i))) (sym (arm_list t i)) }
 
 -- By the answer.
 module _ {s : List ℕ} {at size depth : ℕ} {st : Settings} (when : Bool) (p : Plans s at st (Arm when)) (q c : ℕ) (eq : q ≡ subtree_at s (at + 1)) (ec : c ≡ subtree_at s (at + 1 + q))

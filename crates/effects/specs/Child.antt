@@ -7,7 +7,7 @@ use Rattle.rules.specs.Lists.{concat_map, keep_if}
 use Rattle.rules.specs.Settings.{Settings}
 use Rattle.rules.specs.Class.{has_static_value, nonempty_static_block, static_value}
 use Rattle.rules.specs.Effects.{evaluate, effects, effects_of, itself_if, coercion}
-use Rattle.rules.specs.Proofs.Effects.{key_is, static_is}
+use Rattle.rules.proofs.Effects.{key_is, static_is}
 use Rattle.readings.specs.Node.{Tells}
 use Rattle.readings.specs.Symbol.{possible_symbol_if}
 use Rattle.effects.specs.declared.listing.Part.TheVariants.{Coerced, Key, Static}

@@ -7,7 +7,7 @@ use Rattle.tree.specs.Fields.{subtree_at}
 use Rattle.rules.specs.Lists.{concat_map, keep_if}
 use Rattle.rules.specs.Settings.{Settings}
 use Rattle.rules.specs.Effects.{itself_if}
-use Rattle.rules.specs.Proofs.Lists.{concat_map_append}
+use Rattle.rules.proofs.Lists.{concat_map_append}
 use Rattle.readings.specs.Split.{first_some, first_within, first_node, first_input, rest_input}
 use Rattle.stated.specs.Wrote.{Wrote, wrote_none, wrote_both, wrote_as}
 use Rattle.effects.specs.Listing.{Listing, InOrder, listed_as, all_listed_as, GivenChildren, ListedChildren, GivenTree, ListedTree}

@@ -1,7 +1,6 @@
 -- What a function of the listing is given, as its match found it.
 use Rattle.std.specs.Prelude.{◌≡◌, List, ℕ, ◌+◌, ◌≤◌}
 use Rattle.std.proofs.Common.{sym, subst, arith}
-use Rattle.tree.specs.Tree.{node}
 use Rattle.tree.specs.Room.{records_in}
 use Rattle.rules.specs.Settings.{Settings}
 use Rattle.readings.specs.Node.{SomeNode}

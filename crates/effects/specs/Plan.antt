@@ -16,9 +16,10 @@ use Rattle.rules.specs.Facts.{flagged, of_identifier, pure_new, pure_call, test_
 use Rattle.rules.specs.Conditional.{test_of, arms_of, consequent_of, alternate_of}
 use Rattle.rules.specs.Class.{heritage, elements}
 use Rattle.rules.specs.Effects.{Evaluated, evaluate, effects, effects_of, effects_by, itself_if, coercion, addition_effect, children_in_order, class_is_effect}
-use Rattle.rules.specs.Proofs.Lists.{by_cond, take_map, drop_map, concat_map_map}
-use Rattle.rules.specs.Proofs.Unfold.{evaluated, in_order_is}
-use Rattle.rules.specs.Proofs.Effects.{own, effects_of_append, coerced_is}
+use Rattle.rules.proofs.Lists.{by_cond, take_map, drop_map, concat_map_map}
+use Rattle.rules.specs.Results.{evaluated}
+use Rattle.rules.proofs.Unfold.{in_order_is}
+use Rattle.rules.proofs.Effects.{own, effects_of_append, coerced_is}
 use Rattle.readings.specs.Node.{Node, settings_given}
 use Rattle.tree.specs.Kind as kind
 use Rattle.effects.specs.declared.plan.Plan.{Plan}

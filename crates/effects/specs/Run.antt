@@ -13,10 +13,11 @@ use Rattle.tree.specs.Fields.{settings_of, count_of}
 use Rattle.tree.specs.Refusal.{list_effects_limits, refusal, tree_of}
 use Rattle.tree.specs.Encoding.{Bytes}
 use Rattle.tree.specs.Stands.{formed_one}
-use Rattle.tree.specs.Accepted.{passed, counted_parts, counted_room, Accepted, accepted}
+use Rattle.tree.specs.Accepted.{Accepted}
+use Rattle.tree.proofs.Accepted.{passed, counted_parts, counted_room, accepted}
 use Rattle.file.specs.Answer as check
 use Rattle.rules.specs.Effects.{effects}
-use Rattle.rules.specs.Theorems.{few_effects}
+use Rattle.rules.proofs.Theorems.{few_effects}
 use Rattle.readings.specs.Node.{settings_given}
 use Rattle.effects.specs.Listing.{InOrder, GivenTree, ListedTree}
 use Rattle.effects.specs.Answer.{number, effect_list_given, AnswersGiven}

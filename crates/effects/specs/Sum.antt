@@ -11,7 +11,7 @@ use Rattle.tree.specs.Symbol.{is_addition, string_fact, is_string, is_string_sid
 use Rattle.rules.specs.Lists.{keep_if}
 use Rattle.rules.specs.Settings.{Settings}
 use Rattle.rules.specs.Facts.{flagged, possible_symbol}
-use Rattle.rules.specs.Proofs.Addition.{effects_sides}
+use Rattle.rules.proofs.Addition.{effects_sides}
 use Rattle.rules.specs.Effects.{effects, itself_if, coercion, addition_effect}
 use Rattle.readings.specs.Node.{Node, Tells}
 use Rattle.tree.specs.Kind as kind

@@ -1,4 +1,6 @@
 // List effects: the effect list of a tree file, in ECMA-262's order.
+#![tactic(auto)]
+
 mod entry;
 mod listing;
 mod plan;

@@ -11,7 +11,7 @@ use crate::plan::Plan;
 use crate::{entry, plan};
 
 // What of a child is listed, where it is not the child alone.
-#[derive(Drop)]
+#[derive(Clone, Copy)]
 pub enum Part {
     // the child, followed by its coercion
     Coerced,
@@ -29,7 +29,7 @@ pub struct Side {
 }
 
 // The trees from record at on, in size records, in order. The walk goes into a node that is passed without a call.
-#[cycle(list_addition_list_arguments_list_arm_list_children_list_class_list_expr_list_part_list_parts_list_side_list_static)]
+#[cycle(listing)]
 pub fn list_children(
     src: &[u8],
     at: usize,
@@ -61,7 +61,7 @@ pub fn list_children(
 }
 
 // A part of each of the trees from record at on, in size records.
-#[cycle(list_addition_list_arguments_list_arm_list_children_list_class_list_expr_list_part_list_parts_list_side_list_static)]
+#[cycle(listing)]
 fn list_parts(
     src: &[u8],
     at: usize,
@@ -88,7 +88,7 @@ fn list_parts(
 }
 
 // A part of one tree.
-#[cycle(list_addition_list_arguments_list_arm_list_children_list_class_list_expr_list_part_list_parts_list_side_list_static)]
+#[cycle(listing)]
 fn list_part(
     src: &[u8],
     at: usize,
@@ -122,7 +122,7 @@ fn list_part(
 }
 
 // The static value of a class element, or its block.
-#[cycle(list_addition_list_arguments_list_arm_list_children_list_class_list_expr_list_part_list_parts_list_side_list_static)]
+#[cycle(listing)]
 fn list_static(
     src: &[u8],
     at: usize,
@@ -149,7 +149,7 @@ fn list_static(
 }
 
 // An expression that is not passed, by its plan.
-#[cycle(list_addition_list_arguments_list_arm_list_children_list_class_list_expr_list_part_list_parts_list_side_list_static)]
+#[cycle(listing)]
 fn list_expr(
     src: &[u8],
     at: usize,
@@ -192,7 +192,7 @@ fn list_expr(
 }
 
 // What a pure call or new is given.
-#[cycle(list_addition_list_arguments_list_arm_list_children_list_class_list_expr_list_part_list_parts_list_side_list_static)]
+#[cycle(listing)]
 fn list_arguments(
     src: &[u8],
     at: usize,
@@ -214,7 +214,7 @@ fn list_arguments(
 }
 
 // The test of a conditional, and then the consequent if the test counts as yes, or the alternate.
-#[cycle(list_addition_list_arguments_list_arm_list_children_list_class_list_expr_list_part_list_parts_list_side_list_static)]
+#[cycle(listing)]
 fn list_arm(
     src: &[u8],
     at: usize,
@@ -244,7 +244,7 @@ fn list_arm(
 }
 
 // A side of an addition, or a template's child: whether it is a string comes with its listing.
-#[cycle(list_addition_list_arguments_list_arm_list_children_list_class_list_expr_list_part_list_parts_list_side_list_static)]
+#[cycle(listing)]
 fn list_side(
     src: &[u8],
     at: usize,
@@ -266,7 +266,7 @@ fn list_side(
     Side { next, string }
 }
 
-#[cycle(list_addition_list_arguments_list_arm_list_children_list_class_list_expr_list_part_list_parts_list_side_list_static)]
+#[cycle(listing)]
 fn list_addition(
     src: &[u8],
     at: usize,
@@ -309,7 +309,7 @@ fn list_addition(
 }
 
 // Heritage, the class itself, all computed keys, then static values and blocks.
-#[cycle(list_addition_list_arguments_list_arm_list_children_list_class_list_expr_list_part_list_parts_list_side_list_static)]
+#[cycle(listing)]
 fn list_class(
     src: &[u8],
     at: usize,

@@ -1,4 +1,6 @@
 // The fields of record i of a tree file, and where it stands.
+#![tactic(auto)]
+
 mod facts;
 pub mod kind;
 pub mod offset;

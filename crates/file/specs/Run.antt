@@ -1,6 +1,6 @@
 -- The check, test by test: which number it comes to, and the tree once the shape has passed.
 use Rattle.std.specs.Prelude.{◌≡◌, Bool, true, false, List, ℕ, ◌<◌, ◌≤◌}
-use Rattle.std.proofs.Common.{sym}
+use Rattle.std.proofs.Common.{sym, le-ltb}
 use native.Mathlib.Omega.{arith}
 use Rattle.tree.specs.Tree.{one, levels, depth}
 use Rattle.tree.specs.Below.{all_below}
@@ -9,7 +9,8 @@ use Rattle.tree.specs.Room.{records_in}
 use Rattle.tree.specs.Fields.{settings_of, count_of, head_at}
 use Rattle.tree.specs.Refusal.{Limits, mark_ok, version_ok, settings_ok, count_ok, records_ok, all_taken, shape_ok, tree_of, additions_ok, ends_ok, depth_ok, refusal}
 use Rattle.tree.specs.Stands.{formed_one}
-use Rattle.tree.specs.Accepted.{Counted, counted_parts, counted_room, Rooted, rooted}
+use Rattle.tree.specs.Accepted.{Counted, Rooted}
+use Rattle.tree.proofs.Accepted.{counted_parts, counted_room, rooted}
 use Rattle.file.specs.Answer.{refused_by, accepted_with, stated_of, checked}
 use Rattle.tree.specs.Walk.{Holds, Held}
 use Rattle.file.specs.Depth.{Low}
@@ -33,6 +34,10 @@ module _ (limits : Limits) (s : List ℕ) where
       pub refused_3 : settings_ok s ≡ false → refused_by 3 ≡ checked limits s
       unfolding refusal
       refused_3 e = stated_as limits s 3 (rw (mark, version, e))
+
+      pub settings_over : 8 ≤ settings_of s → refused_by 3 ≡ checked limits s
+      unfolding settings_ok
+      settings_over l = refused_3 (le-ltb (settings_of s) 8 l)
 
       module _ (settings : settings_ok s ≡ true) where
         pub refused_4 : count_ok limits.records s ≡ false → refused_by 4 ≡ checked limits s

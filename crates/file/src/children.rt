@@ -164,6 +164,7 @@ fn shape_at(src: &[u8], n: usize, i: usize) -> bool
 }
 
 // Linear: record i is looked at once as itself and, as long as no record has failed, once as a child.
+#[tactic(auto, using(crate::specs::Steps::shape_root))]
 pub fn shape_ok(src: &[u8], n: usize) -> bool
     requires { (n ≤ records_in src.now) × (n ≡ count_of src.now) × (0 < n) }
     ensures { result ≡ shape_ok src.now }

@@ -4,6 +4,7 @@ ghost use Rattle.file.specs.Depth.{Low};
 
 // Whether the trees that stand from record at on, in size records, have depth levels at most. It calls itself depth times at most:
 // siblings are walked by the loop.
+#[tactic(auto, using(tree::specs::Walk::held_some))]
 pub fn levels_ok(src: &[u8], at: usize, size: usize, depth: usize) -> bool
     requires { Held src.now at size }
     ensures { Low src.now at size depth result }

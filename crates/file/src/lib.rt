@@ -1,4 +1,6 @@
 // The check of a tree file: refusals 1 to 8, in order, with 5 again and 17 after 7.
+#![tactic(auto)]
+
 mod children;
 mod depth;
 mod ends;
@@ -32,6 +34,7 @@ pub enum Checked {
     Accepted { settings: u8, count: usize },
 }
 
+#[tactic(auto, using(std::proofs::lemmas::Bool::Decides::nat_tests), unfolding(tree::specs::Refusal::mark_ok))]
 fn mark_ok(src: &[u8]) -> bool
     ensures { result ≡ mark_ok src.now }
 {
@@ -72,6 +75,7 @@ fn count_ok(src: &[u8], n: usize, most: usize) -> bool
 }
 
 // Whether src is a tree file of at most so many records and levels, with logical nodes or without.
+#[tactic(auto, using(crate::specs::Run::settings_over))]
 pub fn check(src: &[u8], records: usize, depth: usize, logicals: bool) -> Checked
     ensures { stated result ≡ checked (limits_of records depth logicals) src.now }
 {

@@ -44,6 +44,7 @@ fn never_kind(kind: usize) -> usize
     (NEVER_SYMBOL >> kind) % 2
 }
 
+#[tactic(auto, using(crate::specs::Facts::facts_symbol))]
 fn facts_ok(src: &[u8], i: usize) -> bool
     requires { (i + 1 ≤ records_in src.now) × ((head_at src.now i).kind < 23) }
     ensures { result ≡ facts_ok (head_at src.now i) }
@@ -137,6 +138,7 @@ fn sub_ok(src: &[u8], i: usize) -> bool
     least_sub(kind) <= sub
 }
 
+#[tactic(auto, using(crate::specs::Steps::record_zero))]
 fn record_ok(src: &[u8], i: usize) -> bool
     requires { i + 1 ≤ records_in src.now }
     ensures { result ≡ record_ok (head_at src.now i) }
@@ -157,6 +159,7 @@ fn record_ok(src: &[u8], i: usize) -> bool
     false
 }
 
+#[tactic(auto, using(std::proofs::lemmas::Bool::Decides::nat_tests), unfolding(tree::specs::Record::included, tree::specs::Record::logical_taken))]
 fn taken(src: &[u8], i: usize, logicals: bool) -> bool
     requires { i + 1 ≤ records_in src.now }
     ensures { result ≡ taken logicals (head_at src.now i) }

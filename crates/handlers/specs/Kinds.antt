@@ -14,7 +14,7 @@ use Rattle.tree.specs.Stands.{node_parts}
 use Rattle.rules.specs.Settings.{Settings, derived}
 use Rattle.rules.specs.Handler.{Handler, handler, unary_handler, binary_handler}
 use Rattle.rules.specs.Facts.{flagged}
-use Rattle.rules.specs.Proofs.Lists.{by_cond}
+use Rattle.rules.proofs.Lists.{by_cond}
 use Rattle.handlers.specs.declared.outcome.Outcome.{Outcome}
 use Rattle.handlers.specs.declared.outcome.Outcome.TheVariants.{Removable, Unchanged, Unwrapped, Rewritten}
 use Rattle.handlers.specs.declared.outcome.Rewrite.TheVariants.{Sequence, Array, Comparison}

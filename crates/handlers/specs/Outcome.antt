@@ -12,7 +12,7 @@ use Rattle.rules.specs.Addition.{fold_string_addition_chain}
 use Rattle.rules.specs.Class.{extracted}
 use Rattle.rules.specs.Conditional.{test, consequent_of, alternate_of}
 use Rattle.rules.specs.Reduce.{reduce, none_one_several, stays_with, transform_template, transform_object, join_kept, fold_arguments_into_needed_expressions, sequence_if_any, join_arms}
-use Rattle.rules.specs.Proofs.Unfold.{reduced}
+use Rattle.rules.specs.Results.{reduced}
 use Rattle.readings.specs.Node.{Node}
 use Rattle.handlers.specs.declared.outcome.Outcome.{Outcome}
 use Rattle.handlers.specs.declared.outcome.Outcome.TheVariants.{Removable, Unchanged, Unwrapped, Rewritten, Arguments, Addition, Class, Conditional}

@@ -10,8 +10,9 @@ use Rattle.rules.specs.Made.{place_of}
 use Rattle.rules.specs.Class.{kept_class}
 use Rattle.rules.specs.Conditional.{test_of, arms_of, consequent_of, alternate_of}
 use Rattle.rules.specs.Reduce.{Reduced, kept, none_one_several, stays_with, join_kept, fold_arguments_into_needed_expressions, without_callee, join_arms, remove_unused_expression}
-use Rattle.rules.specs.Proofs.Lists.{take_map, drop_map}
-use Rattle.rules.specs.Proofs.Unfold.{reduced, reduce_is, kept_is}
+use Rattle.rules.proofs.Lists.{take_map, drop_map}
+use Rattle.rules.specs.Results.{reduced}
+use Rattle.rules.proofs.Unfold.{reduce_is, kept_is}
 use Rattle.handlers.specs.declared.outcome.Outcome.{Outcome}
 use Rattle.handlers.specs.declared.outcome.Outcome.TheVariants.{Removable, Unchanged, Unwrapped, Arguments, Addition, Class, Conditional}
 use Rattle.handlers.specs.Outcome.{outcome, HasChildren, HandledAs}

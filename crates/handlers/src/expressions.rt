@@ -5,6 +5,7 @@ ghost use Rattle.handlers.specs.Choice.{Chooses, of_unary, of_binary, of_call, o
 use crate::outcome;
 use crate::outcome::{Outcome, Rewrite};
 
+#[tactic(auto, using(crate::proofs::Flagged::flagged_there))]
 pub fn remove_unused_unary_expr(src: &[u8], at: usize) -> Outcome
     requires { SomeNode src.now at }
     ensures { Chooses src.now at of_unary result }
@@ -25,6 +26,7 @@ pub fn remove_unused_unary_expr(src: &[u8], at: usize) -> Outcome
     outcome::stays_if(readings::flagged_at(src, at))
 }
 
+#[tactic(auto, using(crate::proofs::Flagged::flagged_there))]
 pub fn remove_unused_binary_expr(src: &[u8], at: usize) -> Outcome
     requires { SomeNode src.now at }
     ensures { Chooses src.now at of_binary result }
@@ -92,6 +94,7 @@ pub fn remove_unused_class_expr(src: &[u8], at: usize) -> Outcome
     Outcome::Class
 }
 
+#[tactic(auto, using(crate::proofs::Flagged::flagged_there))]
 pub fn remove_unused_conditional_expr(src: &[u8], at: usize) -> Outcome
     requires { SomeNode src.now at }
     ensures { Chooses src.now at of_conditional result }

@@ -1,4 +1,6 @@
 // What becomes of a node, by its kind, its facts and the settings: the handlers of `remove_unused_expression`.
+#![tactic(auto)]
+
 ghost use Rattle.readings.specs.Node.{SomeNode, settings_with};
 ghost use Rattle.handlers.specs.Outcome.{Handles};
 
@@ -8,6 +10,7 @@ use fields::kind;
 mod expressions;
 pub mod outcome;
 
+#[tactic(auto, using(crate::specs::Kinds::handles_zero, crate::proofs::Flagged::leaf_stays))]
 pub fn handle(src: &[u8], at: usize, settings: u8) -> Outcome
     requires { SomeNode src.now at }
     ensures { Handles src.now at (settings_with settings) result }

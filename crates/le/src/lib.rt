@@ -1,4 +1,6 @@
 // Little-endian fields of a byte slice.
+#![tactic(auto)]
+
 ghost use Rattle.std.specs.Prelude.{◌≡◌, ◌+◌, ◌<◌, length, get_or};
 ghost use Rattle.le.specs.Le.{u16_at, u32_at, set16, set32};
 

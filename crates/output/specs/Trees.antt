@@ -1,7 +1,7 @@
 -- Lists of trees that stand in a buffer, from one record to another, as writing leaves them.
 use Rattle.std.specs.Prelude.{◌≡◌, refl, List, [], ◌∷◌, ◌++◌, ℕ, suc, ◌+◌, ◌≤◌, length}
 use Rattle.std.proofs.Common.{sym, ap, subst, ◌∙◌, arith}
-use Rattle.tree.specs.Tree.{Head, Forest, nil, node, Tree, forest, one, count, records, size}
+use Rattle.tree.specs.Tree.{Head, Forest, nil, node, Tree, forest, one, count, records}
 use Rattle.tree.specs.Stands.{Stands}
 use Rattle.output.specs.Records.{Before, Behind, CopiedRecords, MovedRecords, Recorded, before_less, before_trans, before_copied, behind_copied, copied_records, head_copied, children_copied, subtree_copied}
 

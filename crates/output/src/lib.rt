@@ -1,4 +1,6 @@
 // Records and trees written into a buffer: copies, moved trees, made records, and lists of trees read back.
+#![tactic(auto)]
+
 mod list;
 mod record;
 

@@ -8,7 +8,7 @@ use Rattle.tree.specs.Below.{and_left, and_right}
 use Rattle.tree.specs.Children.{child_count_ok, node_ok}
 use Rattle.tree.specs.Stands.{NodeOk, node_parts}
 use Rattle.tree.specs.Record.{bit, facts_ok, element_sub_ok, sub_ok, record_ok}
-use Rattle.rules.specs.Proofs.Lists.{by_cond}
+use Rattle.rules.proofs.Lists.{by_cond}
 use Rattle.tree.specs.Kind as kind
 use Rattle.readings.specs.Input.{Input}
 use Rattle.readings.specs.First.{first_size, GivenFirst}

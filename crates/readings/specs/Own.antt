@@ -1,12 +1,13 @@
 -- What is said of a record holds of the tree that stands there, where it is read off the tree's own record.
-use Rattle.std.specs.Prelude.{◌≡◌, refl, Bool, List, ℕ}
+use Rattle.std.specs.Prelude.{◌≡◌, refl, Bool, true, false, List, ℕ}
 use Rattle.std.proofs.Common.{ap, ◌∙◌}
 use Rattle.tree.specs.Tree.{Head, Tree, alone}
 use Rattle.tree.specs.Fields.{node_at}
 use Rattle.tree.specs.Symbol.{is_addition, string_fact}
-use Rattle.rules.specs.Facts.{flagged}
+use Rattle.rules.specs.Facts.{flagged, preserved_iife, has_side_effects_or_preserved_iife}
+use Rattle.readings.specs.Steps.{or_holds, or_else}
 use Rattle.rules.specs.Class.{decorated_class, has_static_value, nonempty_static_block, decorated_element, index_signature}
-use Rattle.readings.specs.Node.{Tells}
+use Rattle.readings.specs.Node.{Tells, settings_with}
 
 module _ {s : List ℕ} {i : ℕ} {r : Bool} where
   tells_own : (p : Tree → Bool) → ((t : Tree) → p (alone t.head) ≡ p t) → r ≡ p (node_at s i) → Tells s i p r
@@ -43,3 +44,13 @@ module _ {s : List ℕ} {i : ℕ} {r : Bool} where
   pub tells_index_signature : r ≡ index_signature (node_at s i) → Tells s i index_signature r
   unfolding index_signature
   tells_index_signature = tells_own index_signature (λ t. refl)
+
+module _ {s : List ℕ} {i : ℕ} (b : ℕ) {r : Bool} where
+  pub flagged_stays : r ≡ flagged (node_at s i) → r ≡ true → Tells s i (has_side_effects_or_preserved_iife (settings_with b)) true
+  unfolding has_side_effects_or_preserved_iife
+  flagged_stays e h = or_holds (tells_flagged e) (preserved_iife (settings_with b)) h
+
+  pub unflagged_by : r ≡ flagged (node_at s i) → r ≡ false → {q : Bool} → Tells s i (preserved_iife (settings_with b)) q
+      → Tells s i (has_side_effects_or_preserved_iife (settings_with b)) q
+  unfolding has_side_effects_or_preserved_iife
+  unflagged_by e h w = or_else (tells_flagged e) (preserved_iife (settings_with b)) h w

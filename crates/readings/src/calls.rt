@@ -77,6 +77,7 @@ pub fn pure_call(src: &[u8], i: usize, settings: u8) -> bool
     false
 }
 
+#[tactic(auto, using(crate::specs::Own::flagged_stays, crate::specs::Own::unflagged_by))]
 pub fn has_side_effects_or_preserved_iife(src: &[u8], i: usize, settings: u8) -> bool
     requires { SomeNode src.now i }
     ensures { Tells src.now i (has_side_effects_or_preserved_iife (settings_with settings)) result }

@@ -1,4 +1,6 @@
 // What a record says of the tree that stands there, as reducing and listing ask it.
+#![tactic(auto)]
+
 mod calls;
 mod class;
 mod facts;

@@ -20,6 +20,7 @@ pub fn last_child(src: &[u8], i: usize, size: usize) -> usize
 }
 
 // The record of the last expression of the tree at record i, which has size records: fewer at each call.
+#[tactic(auto, using(crate::specs::Sequence::finds_empty))]
 pub fn last_expression_in_sequence(src: &[u8], i: usize, size: usize) -> usize
     requires { SomeNode src.now i × (size ≡ subtree_at src.now i) }
     ensures { Finds src.now i last_or_itself result }

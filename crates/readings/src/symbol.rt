@@ -35,6 +35,7 @@ fn is_string_at(src: &[u8], at: usize) -> bool
 }
 
 // Whether the node at record i is a possible symbol, where it is known whether it is a string.
+#[tactic(auto, unfolding(crate::specs::Symbol::possible_symbol_if))]
 pub fn possible_symbol_if(src: &[u8], i: usize, string: bool) -> bool
     requires { i + 1 ≤ records_in src.now }
     ensures { result ≡ possible_symbol_if string (head_at src.now i) }

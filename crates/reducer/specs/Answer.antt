@@ -1,5 +1,5 @@
 -- What Reduce answers: document 01's number and values for every case, every lent byte, and what holds of an accepted file's answer.
-use Rattle.std.specs.Prelude.{◌≡◌, refl, Bool, cond, List, [], ◌∷◌, ◌++◌, ℕ, zero, suc, ◌+◌, ◌*◌, ◌-◌, ◌≤◌, ltb, length, get_or, drop}
+use Rattle.std.specs.Prelude.{◌≡◌, refl, Bool, cond, List, [], ◌∷◌, ◌++◌, ℕ, zero, suc, ◌*◌, ◌-◌, ◌≤◌, ltb, length, get_or, drop}
 use Rattle.std.proofs.Common.{sym, ap, ◌∙◌, arith, length-append}
 use Rattle.stated.specs.Stated.{Stated, injective_by}
 use Rattle.tree.specs.Tree.{Tree, forest, records, levels, depth}

@@ -8,7 +8,7 @@ use Rattle.rules.specs.Lists.{keep_if}
 use Rattle.rules.specs.Facts.{flagged}
 use Rattle.rules.specs.Made.{place_of, make_array}
 use Rattle.rules.specs.Reduce.{reduce}
-use Rattle.rules.specs.Theorems.{at_most_twice}
+use Rattle.rules.proofs.Theorems.{at_most_twice}
 use Rattle.readings.specs.Node.{SomeNode, Tells}
 use Rattle.readings.specs.Input.{Input, input_node}
 use Rattle.readings.specs.Split.{some_size}

@@ -1,14 +1,14 @@
 -- A flagged conditional: its arms are reduced behind records for itself and its test.
 use Rattle.std.specs.Prelude.{◌≡◌, List, [], ◌∷◌, ℕ, ◌+◌, ◌*◌, ◌-◌, ◌<◌, ◌≤◌}
 use Rattle.std.proofs.Common.{sym, ◌∙◌, append-nil, arith}
-use Rattle.tree.specs.Tree.{Tree, forest, one, records, size}
+use Rattle.tree.specs.Tree.{Tree, forest, one, records}
 use Rattle.tree.specs.Layout.{version_in}
 use Rattle.tree.specs.Room.{records_in}
 use Rattle.tree.specs.Fields.{subtree_at}
 use Rattle.rules.specs.Settings.{Settings}
 use Rattle.rules.specs.Conditional.{test}
 use Rattle.rules.specs.Reduce.{reduce, join_arms}
-use Rattle.rules.specs.Theorems.{at_most_twice}
+use Rattle.rules.proofs.Theorems.{at_most_twice}
 use Rattle.readings.specs.Input.{Input}
 use Rattle.readings.specs.Split.{some_size}
 use Rattle.readings.specs.Arms.{Arms, arms_at}

@@ -8,7 +8,7 @@ use Rattle.rules.specs.Lists.{concat_map}
 use Rattle.rules.specs.Settings.{Settings}
 use Rattle.rules.specs.Made.{place_of, make_template, make_object}
 use Rattle.rules.specs.Reduce.{reduce, flush, stays_with, none_one_several, fold_arguments_into_needed_expressions}
-use Rattle.rules.specs.Proofs.Unfold.{reduced}
+use Rattle.rules.specs.Results.{reduced}
 use Rattle.readings.specs.Input.{Input, input_node}
 use Rattle.readings.specs.First.{GivenFirst}
 use Rattle.readings.specs.Split.{first_node, some_size, kids_input, Split, split, given_first}

@@ -8,7 +8,8 @@ use Rattle.rules.specs.Handler.{handler, is_kind, is_spread}
 use Rattle.rules.specs.Facts.{flagged, possible_symbol}
 use Rattle.rules.specs.Made.{place_of, make_array, make_template, make_object, with_children}
 use Rattle.rules.specs.Reduce.{none_one_several, stays_with, flush, flush_template_before, transform_template, transform_object, fold_argument, fold_arguments_into_needed_expressions, reduce}
-use Rattle.rules.specs.Proofs.Unfold.{reduced, reduce_is}
+use Rattle.rules.specs.Results.{reduced}
+use Rattle.rules.proofs.Unfold.{reduce_is}
 use Rattle.tree.specs.Kind as kind
 use Rattle.reducer.specs.declared.walk.Part.{Part}
 use Rattle.reducer.specs.declared.walk.Part.TheVariants.{InOrder, Argument, Template, Object}

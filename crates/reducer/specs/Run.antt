@@ -15,14 +15,16 @@ use Rattle.tree.specs.Room.{records_of, records_in, version_same, start_first, s
 use Rattle.tree.specs.Fields.{settings_of, count_of}
 use Rattle.tree.specs.File.{preorder, bytes, header, file_bytes}
 use Rattle.tree.specs.Refusal.{reduce_limits, list_effects_limits, refusal, tree_of, mark_ok, version_ok}
-use Rattle.tree.specs.Encoding.{Bytes, bytes_stand, length_file}
+use Rattle.tree.specs.Encoding.{Bytes}
+use Rattle.tree.proofs.Encoding.{bytes_stand, length_file}
 use Rattle.tree.specs.Stands.{formed_one}
-use Rattle.tree.specs.Accepted.{passed, counted_parts, counted_room, mark_long, mark_copied, Accepted, accepted, FileOf, file_of_lem, header_is}
+use Rattle.tree.specs.Accepted.{Accepted, FileOf}
+use Rattle.tree.proofs.Accepted.{passed, counted_parts, counted_room, mark_long, mark_copied, accepted, file_of_lem, header_is}
 use Rattle.tree.specs.Accepted as accepted
 use Rattle.file.specs.Answer as check
 use Rattle.rules.specs.Reads.{Premise}
 use Rattle.rules.specs.Reduce.{reduce}
-use Rattle.rules.specs.Theorems.{kept_same_effects, removable_no_effects, yes_unread, at_most_twice, one_deeper, at_most_one, kept_within}
+use Rattle.rules.proofs.Theorems.{kept_same_effects, removable_no_effects, yes_unread, at_most_twice, one_deeper, at_most_one, kept_within}
 use Rattle.readings.specs.Node.{settings_given, settings_with}
 use Rattle.readings.specs.Input.{Input}
 use Rattle.effects.specs.Answer.{effect_list_given}

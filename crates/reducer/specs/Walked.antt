@@ -6,7 +6,7 @@ use Rattle.rules.specs.Handler.{is_spread}
 use Rattle.rules.specs.Facts.{possible_symbol}
 use Rattle.rules.specs.Made.{place_of, make_template, make_object}
 use Rattle.rules.specs.Reduce.{flush, fold_argument, reduce}
-use Rattle.rules.specs.Proofs.Unfold.{reduced}
+use Rattle.rules.specs.Results.{reduced}
 use Rattle.reducer.specs.declared.walk.Part.{Part}
 use Rattle.reducer.specs.declared.walk.Part.TheVariants.{InOrder, Argument, Template, Object}
 

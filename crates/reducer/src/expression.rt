@@ -10,7 +10,7 @@ use crate::{close, walk};
 use handlers::outcome::{Outcome, Rewrite};
 
 // The trees from record at on, in size records.
-#[cycle(reduce_child_reduce_children_reduce_conditional_reduce_rewritten_remove_unused_expression)]
+#[cycle(expression)]
 fn reduce_children(
     src: &[u8],
     at: usize,
@@ -39,7 +39,7 @@ fn reduce_children(
 }
 
 // One child, behind those that are settled and those that wait.
-#[cycle(reduce_child_reduce_children_reduce_conditional_reduce_rewritten_remove_unused_expression)]
+#[cycle(expression)]
 fn reduce_child(
     src: &[u8],
     at: usize,
@@ -66,7 +66,7 @@ fn reduce_child(
     walk::settle(src, at, part, out, slot, next, end)
 }
 
-#[cycle(reduce_child_reduce_children_reduce_conditional_reduce_rewritten_remove_unused_expression)]
+#[cycle(expression)]
 pub fn remove_unused_expression(
     src: &[u8],
     at: usize,
@@ -109,7 +109,7 @@ pub fn remove_unused_expression(
 
 // A flagged conditional. Its arms are reduced first, behind records for itself and its test, which is copied only where an arm is left:
 // "both gone leaves the reduced test".
-#[cycle(reduce_child_reduce_children_reduce_conditional_reduce_rewritten_remove_unused_expression)]
+#[cycle(expression)]
 fn reduce_conditional(
     src: &[u8],
     at: usize,
@@ -140,7 +140,7 @@ fn reduce_conditional(
 }
 
 // A node that is rewritten over the list of what is left of its children, which stands behind the free record at pos.
-#[cycle(reduce_child_reduce_children_reduce_conditional_reduce_rewritten_remove_unused_expression)]
+#[cycle(expression)]
 fn reduce_rewritten(
     src: &[u8],
     at: usize,
@@ -177,7 +177,7 @@ fn reduce_rewritten(
         }
         Rewrite::Comparison => {
             let left = reduce_children(src, first, rest, Part::InOrder, below, settings, out, to);
-            rewrite::join_kept_lem(src, at, out, pos, left.next)
+            rewrite::join_kept(src, at, out, pos, left.next)
         }
     }
 }

@@ -1,4 +1,6 @@
 // Reduce: what is left of a tree file's expression once its value is not used.
+#![tactic(auto)]
+
 mod close;
 mod expression;
 mod header;
@@ -25,6 +27,7 @@ pub enum Reduced {
 }
 
 // Reduces the tree file src into out.
+#[tactic(auto, using(crate::proofs::Early::short_number))]
 pub fn reduce(src: &[u8], out: &mut [u8]) -> Reduced
     ensures { Answers src.now out.old out.new result }
 {
@@ -65,6 +68,7 @@ fn reduce_by_size(src: &[u8], count: usize, settings: u8, least: usize, out: &mu
     reduce_in(src, count, settings, &mut work, out)
 }
 
+#[tactic(auto, using(crate::proofs::Early::no_number, crate::proofs::Early::left_none, crate::proofs::Early::rewritten_none, crate::proofs::Early::same_effects))]
 fn reduce_in(src: &[u8], count: usize, settings: u8, work: &mut [u8], out: &mut [u8]) -> Reduced
     requires { GivenFile src.now count settings out.old × (least_output (version_in src.now) count ≤ length work.old) }
     ensures { Answers src.now out.old out.new result }

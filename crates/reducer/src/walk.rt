@@ -8,7 +8,7 @@ ghost use Rattle.reducer.specs.Settled.{GivenSettled, SettlesKept, GivenSettle, 
 use fields::kind;
 
 // What a child is to its parent.
-#[derive(Drop)]
+#[derive(Clone, Copy)]
 pub enum Part {
     InOrder,
     // of a pure call or new: a spread is wrapped in an array (`fold_arguments_into_needed_expressions`)

@@ -27,7 +27,7 @@ fn join_sequence(out: &mut [u8], pos: usize, second: usize, end: usize, place: P
 }
 
 // "two kept go to `join_sequence`"
-pub fn join_kept_lem(src: &[u8], at: usize, out: &mut [u8], pos: usize, end: usize) -> usize
+pub fn join_kept(src: &[u8], at: usize, out: &mut [u8], pos: usize, end: usize) -> usize
     requires { GivenList src.now at out.old pos end }
     ensures { Becomes join_kept_of src.now at out.old out.new pos end result }
 {

@@ -1,4 +1,6 @@
 // What takes a node's place: the trees that are left of its children, made into one.
+#![tactic(auto)]
+
 mod arms;
 mod close;
 mod join;
@@ -9,5 +11,5 @@ pub use arms::join_arms;
 pub use close::{
     none_one_several, remove_unused_array_expr, remove_unused_sequence_expr, sequence_if_any,
 };
-pub use join::join_kept_lem;
+pub use join::join_kept;
 pub use waiting::{flush_object, flush_template, hold, wrap_spread};

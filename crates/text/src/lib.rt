@@ -1,4 +1,6 @@
 // Text written into lent bytes from an index on. Each function returns the index behind what it wrote.
+#![tactic(auto)]
+
 ghost use Rattle.std.specs.Prelude.{◌+◌, ◌≤◌, length};
 ghost use Rattle.stated.specs.Wrote.{Wrote};
 ghost use Rattle.text.specs.Decimal.{digits, decimal};

@@ -1,5 +1,5 @@
 -- What is left of a file, as List effects takes it: a file, or nothing.
-use Rattle.std.specs.Prelude.{◌≡◌, Bool, true, false, cond, ℕ, ◌+◌, ◌*◌, ◌<◌, ◌≤◌, ltb, get_or, drop}
+use Rattle.std.specs.Prelude.{◌≡◌, Bool, true, false, cond, ℕ, ◌*◌, ◌<◌, ◌≤◌, ltb, get_or, drop}
 use Rattle.std.proofs.Math.Path.{refl, sym, ap}
 use Rattle.std.proofs.Common.{◌∙◌, arith, lt-ltb, le-ltb}
 use Rattle.std.proofs.Math.Bool.{true≢false}
@@ -10,7 +10,7 @@ use Rattle.tree.specs.Layout.{header_bytes}
 use Rattle.tree.specs.Fields.{count_of}
 use Rattle.tree.specs.Refusal.{reduce_limits, list_effects_limits, refusal}
 use Rattle.tree.specs.Encoding.{Bytes}
-use Rattle.tree.specs.Accepted.{passed, counted_parts, mark_long, accepted, wider}
+use Rattle.tree.proofs.Accepted.{passed, counted_parts, mark_long, accepted, wider}
 use Rattle.stated.specs.Stated.{Stated}
 use Rattle.stated.specs.Wrote.{Wrote, wrote_none, wrote_as, front_wrote}
 use Rattle.effects.specs.Answer.{Case, refused_by, counts, stated, number, effect_list, Answers, count_within_lem}

@@ -9,7 +9,7 @@ use Rattle.tree.specs.Below.{and_right}
 use Rattle.tree.specs.Layout.{Version, v1, v2, version_in, header_bytes}
 use Rattle.tree.specs.Fields.{count_of}
 use Rattle.tree.specs.Refusal.{Limits, reduce_limits, program_limits, mark_ok, count_ok, refusal}
-use Rattle.tree.specs.Accepted.{passed, counted_parts}
+use Rattle.tree.proofs.Accepted.{passed, counted_parts}
 use Rattle.file.specs.Answer as check
 
 -- A file that counts more records of version 2 than these programs take.

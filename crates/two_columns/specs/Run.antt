@@ -2,7 +2,7 @@
 use Rattle.std.specs.Prelude.{◌≡◌, refl, Bool, true, false, List, [], ◌∷◌, ◌++◌, ltb, length, get_or, take, drop, replicate}
 use Rattle.std.proofs.Math.Path.{sym, ap}
 use Rattle.std.proofs.Common.{ap₂, ◌∙◌, true≢false, arith, length-append, le-ltb}
-use Prim.Native.Nat.{ℕ, zero, suc, ◌+◌, ◌≤◌}
+use Prim.Native.Nat.{ℕ, zero, suc, ◌≤◌}
 use Rattle.std.proofs.lemmas.List.{length-replicate}
 use Rattle.std.proofs.Math.Seq.{take-append_seam}
 use Rattle.stated.specs.Stated.{Stated}
@@ -11,7 +11,7 @@ use Rattle.tree.specs.Tree.{Tree}
 use Rattle.tree.specs.Fields.{count_of}
 use Rattle.tree.specs.Layout.{version_in}
 use Rattle.tree.specs.Refusal.{reduce_limits, program_limits, refusal}
-use Rattle.tree.specs.Accepted.{passed, counted_parts}
+use Rattle.tree.proofs.Accepted.{passed, counted_parts}
 use Rattle.reducer.specs.Answer.{least_output, most_output, most_enough, Case, refused_by, answered, stated, case_of, number, number_by, left, rewritten, stated_of, bytes_of, Promised, Answers}
 use Rattle.reducer.specs.declared.Reduced.{Reduced}
 use Rattle.reducer.specs.declared.Reduced.TheVariants.{Refused, Removable, Kept}

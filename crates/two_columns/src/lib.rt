@@ -1,4 +1,6 @@
 // The two columns of a tree file: its effects before and after Reduce, side by side, as text.
+#![tactic(auto)]
+
 mod limit;
 mod line;
 mod table;

@@ -6,14 +6,15 @@ use Rattle.derived.specs.Bytes.{any_over}
 use Rattle.derived.specs.Answer as derived
 use Rattle.tree.specs.Layout.{version_in}
 use Rattle.tree.specs.Room.{start_le, header_before}
-use Rattle.tree.specs.Encoding.{Bytes, length_file}
+use Rattle.tree.specs.Encoding.{Bytes}
+use Rattle.tree.proofs.Encoding.{length_file}
 use Rattle.tree.specs.Fields.{settings_of, count_of}
 use Rattle.tree.specs.Refusal.{reduce_limits, list_effects_limits, refusal, tree_of}
 use Rattle.tree.specs.Tree.{Tree, forest, size, records}
 use Rattle.tree.specs.File.{file_bytes}
-use Rattle.tree.specs.Accepted.{accepted}
+use Rattle.tree.proofs.Accepted.{accepted}
 use Rattle.rules.specs.Effects.{effects}
-use Rattle.rules.specs.Theorems.{few_effects}
+use Rattle.rules.proofs.Theorems.{few_effects}
 use Rattle.readings.specs.Node.{settings_given}
 use Rattle.effects.specs.Answer as listing
 use Rattle.reducer.specs.Answer as reduction

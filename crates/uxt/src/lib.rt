@@ -1,4 +1,6 @@
 // The C functions. include/uxt.h declares them.
+#![tactic(auto)]
+
 ghost use Rattle.std.specs.Prelude.{◌≡◌, []};
 ghost use Rattle.tree.specs.Refusal.{reduce_limits, refusal};
 ghost use Rattle.derived.specs.Answer.{derived_question};

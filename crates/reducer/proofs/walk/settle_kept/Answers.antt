@@ -1,0 +1,9 @@
+use Rattle.std.proofs.Common.{refl}
+use Rattle.tree.specs.Room.{place_said}
+use Rattle.reducer.specs.Settled.{settled_left}
+use Rattle.reducer.proofs.walk.settle_kept.Goals as goal
+
+pub returns : goal.returns
+returns c =
+    let place = place_said c.args.out.now c.args.out.now c.args.next refl c.place_at-place.ensures in
+    settled_left c.if-end-next.false place c.flush_template.ensures
