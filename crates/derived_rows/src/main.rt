@@ -1,27 +1,29 @@
 // For the tests: answers the Derived question for each case of standard input, a line a case.
 // A case is its scopes and then its ancestors, each list a byte for its length and then its bytes. Of the input the first 131,072
 // bytes are read.
+#![tactic(auto)]
+
 ghost use Rattle.std.specs.Prelude.{◌≤◌, ◌<◌, length};
 
 use derived::Answer;
-use libc::{STDIN_FILENO, STDOUT_FILENO};
+use std::io::Stdout;
 
-fn main() {
+fn main(rt: HostRuntime) {
     let mut input = [0u8; 131072];
-    let n = io::read_full(STDIN_FILENO, &mut input);
-    answer_cases(&input[..n]);
+    let n = streams::read_full(&mut rt.stdin(), &mut input);
+    answer_cases(&mut rt.stdout(), &input[..n]);
 }
 
-fn answer_cases(input: &[u8]) {
+fn answer_cases(stdout: &mut Stdout, input: &[u8]) {
     let mut at = 0;
     while at < input.len() {
-        at = answer_case(input, at);
+        at = answer_case(stdout, input, at);
     }
 }
 
 // Answers the case that stands at `at`, and returns where the next one stands. A case that has no ancestors list is cut short, and is
 // not answered.
-fn answer_case(input: &[u8], at: usize) -> usize
+fn answer_case(stdout: &mut Stdout, input: &[u8], at: usize) -> usize
     requires { at < length input.now }
     ensures { (at < result) × (result ≤ length input.now) }
 {
@@ -34,10 +36,13 @@ fn answer_case(input: &[u8], at: usize) -> usize
     let ancestors = list_at(input, scopes_end);
     let ancestors_start = ancestors.start;
     let ancestors_end = ancestors.end;
-    print_answer(derived::derived_constructor_this_scope(
-        &input[scopes_start..scopes_end],
-        &input[ancestors_start..ancestors_end],
-    ));
+    print_answer(
+        stdout,
+        derived::derived_constructor_this_scope(
+            &input[scopes_start..scopes_end],
+            &input[ancestors_start..ancestors_end],
+        ),
+    );
     ancestors_end
 }
 
@@ -74,18 +79,18 @@ fn wide(byte: u8) -> usize {
     byte as usize
 }
 
-fn print_answer(answer: Answer) {
+fn print_answer(stdout: &mut Stdout, answer: Answer) {
     match answer {
         Answer::Yes => {
-            io::write_all(STDOUT_FILENO, b"yes\n");
+            streams::write_all(stdout, b"yes\n");
         }
         Answer::No => {
-            io::write_all(STDOUT_FILENO, b"no\n");
+            streams::write_all(stdout, b"no\n");
         }
         Answer::Refused(number) => {
-            io::write_all(STDOUT_FILENO, b"refused ");
-            io::print_decimal(STDOUT_FILENO, number as u64);
-            io::write_all(STDOUT_FILENO, b"\n");
+            streams::write_all(stdout, b"refused ");
+            streams::print_decimal(stdout, number as u64);
+            streams::write_all(stdout, b"\n");
         }
     }
 }

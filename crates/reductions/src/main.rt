@@ -4,22 +4,24 @@
 // or `kept` and the length, then the rewritten file in hexadecimal, a line for its header and a line for each record. Behind
 // any of them: `tail`, how many lent bytes stand behind the answer, and how many of these have changed.
 // Of the input the first 655,360 bytes are read.
+#![tactic(auto)]
+
 ghost use Rattle.std.specs.Prelude.{◌<◌};
 
 use cases::Next;
-use libc::{STDIN_FILENO, STDOUT_FILENO};
 use reducer::Reduced;
+use std::io::Stdout;
 
 // What stands before the file of a case.
 const HEAD: usize = 5;
 
-fn main() {
+fn main(rt: HostRuntime) {
     let mut input = [0u8; 655360];
-    let n = io::read_full(STDIN_FILENO, &mut input);
-    reduce_files(&input[..n]);
+    let n = streams::read_full(&mut rt.stdin(), &mut input);
+    reduce_files(&mut rt.stdout(), &input[..n]);
 }
 
-fn reduce_files(input: &[u8]) {
+fn reduce_files(stdout: &mut Stdout, input: &[u8]) {
     let mut at = 0;
     loop {
         let next = cases::next_case(input, at, HEAD);
@@ -28,46 +30,46 @@ fn reduce_files(input: &[u8]) {
         };
         let lent = le::get16(input, at + 2);
         let fill = input[at + 4];
-        reduce_file(&input[start..end], lent, fill);
+        reduce_file(stdout, &input[start..end], lent, fill);
         at = end;
     }
 }
 
 // The array is as long as the most that two bytes can ask for.
-fn reduce_file(src: &[u8], lent: usize, fill: u8)
+fn reduce_file(stdout: &mut Stdout, src: &[u8], lent: usize, fill: u8)
     requires { lent < 65536 }
 {
     let mut space = [fill; 65535];
-    print_reduced(src, &mut space[..lent], fill);
+    print_reduced(stdout, src, &mut space[..lent], fill);
 }
 
-fn print_reduced(src: &[u8], out: &mut [u8], fill: u8) {
+fn print_reduced(stdout: &mut Stdout, src: &[u8], out: &mut [u8], fill: u8) {
     let reduced = reducer::reduce(src, out);
     match reduced {
         Reduced::Refused(number) => {
-            print_number(b"refused ", number as u64);
-            print_tail(out, fill);
+            print_number(stdout, b"refused ", number as u64);
+            print_tail(stdout, out, fill);
         }
         Reduced::Removable => {
-            io::write_all(STDOUT_FILENO, b"removable\n");
-            print_tail(out, fill);
+            streams::write_all(stdout, b"removable\n");
+            print_tail(stdout, out, fill);
         }
         Reduced::Kept(length) => {
-            print_number(b"kept ", length as u64);
-            print_file(&out[..length]);
-            print_tail(&out[length..], fill);
+            print_number(stdout, b"kept ", length as u64);
+            print_file(stdout, &out[..length]);
+            print_tail(stdout, &out[length..], fill);
         }
     }
 }
 
-fn print_file(bytes: &[u8]) {
+fn print_file(stdout: &mut Stdout, bytes: &[u8]) {
     let ends = has_ends(bytes);
     let mut i = 0;
     while i < bytes.len() {
-        print_byte(bytes[i]);
+        print_byte(stdout, bytes[i]);
         i += 1;
         if ends_line(i, ends) {
-            io::write_all(STDOUT_FILENO, b"\n");
+            streams::write_all(stdout, b"\n");
         }
     }
 }
@@ -91,15 +93,18 @@ fn ends_line(i: usize, ends: bool) -> bool {
     (i - 8) % 16 == 0
 }
 
-fn print_byte(byte: u8) {
-    io::print_hex(STDOUT_FILENO, byte as u64, 2);
+// In two hexadecimal digits.
+fn print_byte(stdout: &mut Stdout, byte: u8) {
+    let digits = b"0123456789abcdef";
+    let text = [digits[(byte / 16) as usize], digits[(byte % 16) as usize]];
+    streams::write_all(stdout, &text);
 }
 
 // The lent bytes behind the answer.
-fn print_tail(tail: &[u8], fill: u8) {
-    io::write_all(STDOUT_FILENO, b"tail ");
-    io::print_decimal(STDOUT_FILENO, tail.len() as u64);
-    print_number(b" ", changed(tail, fill));
+fn print_tail(stdout: &mut Stdout, tail: &[u8], fill: u8) {
+    streams::write_all(stdout, b"tail ");
+    streams::print_decimal(stdout, tail.len() as u64);
+    print_number(stdout, b" ", changed(tail, fill));
 }
 
 // How many bytes are not the one that all of them held before.
@@ -116,8 +121,8 @@ fn changed(tail: &[u8], fill: u8) -> u64 {
     count
 }
 
-fn print_number(word: &[u8], number: u64) {
-    io::write_all(STDOUT_FILENO, word);
-    io::print_decimal(STDOUT_FILENO, number);
-    io::write_all(STDOUT_FILENO, b"\n");
+fn print_number(stdout: &mut Stdout, word: &[u8], number: u64) {
+    streams::write_all(stdout, word);
+    streams::print_decimal(stdout, number);
+    streams::write_all(stdout, b"\n");
 }

@@ -3,30 +3,32 @@
 // file and the answer, either behind its length in four bytes; an answer of no byte stands for removable. Printed: `differs`
 // and its number, from 1 on, for each case that is reduced to something else; then `cases` and how many were compared, and
 // `different` and how many of them differ; or `no list` where the mark is another. Of the input the first 655,360 bytes are read.
+#![tactic(auto)]
+
 ghost use Rattle.std.specs.Prelude.{◌≤◌, length};
 
 use cases::Next;
-use libc::{STDIN_FILENO, STDOUT_FILENO};
 use reducer::Reduced;
+use std::io::Stdout;
 
 // What stands before the first case.
 const HEAD: usize = 8;
 
-fn main() {
+fn main(rt: HostRuntime) {
     let mut input = [0u8; 655360];
-    let n = io::read_full(STDIN_FILENO, &mut input);
-    replay_list(&input[..n]);
+    let n = streams::read_full(&mut rt.stdin(), &mut input);
+    replay_list(&mut rt.stdout(), &input[..n]);
 }
 
-fn replay_list(input: &[u8]) {
+fn replay_list(stdout: &mut Stdout, input: &[u8]) {
     if input.len() >= HEAD && begins_with(input, b"UXTL") {
-        replay_cases(input);
+        replay_cases(stdout, input);
     } else {
-        io::write_all(STDOUT_FILENO, b"no list\n");
+        streams::write_all(stdout, b"no list\n");
     }
 }
 
-fn replay_cases(input: &[u8])
+fn replay_cases(stdout: &mut Stdout, input: &[u8])
     requires { 8 ≤ length input.now }
 {
     let mut at = HEAD;
@@ -47,13 +49,13 @@ fn replay_cases(input: &[u8])
         };
         cases += 1;
         if !reduces_to(&input[start..end], &input[first..last]) {
-            print_number(b"differs ", cases);
+            print_number(stdout, b"differs ", cases);
             different += 1;
         }
         at = last;
     }
-    print_number(b"cases ", cases);
-    print_number(b"different ", different);
+    print_number(stdout, b"cases ", cases);
+    print_number(stdout, b"different ", different);
 }
 
 // The array has room for what any file that is taken is reduced to.
@@ -81,8 +83,8 @@ fn begins_with(bytes: &[u8], first: &[u8]) -> bool {
     true
 }
 
-fn print_number(word: &[u8], number: u64) {
-    io::write_all(STDOUT_FILENO, word);
-    io::print_decimal(STDOUT_FILENO, number);
-    io::write_all(STDOUT_FILENO, b"\n");
+fn print_number(stdout: &mut Stdout, word: &[u8], number: u64) {
+    streams::write_all(stdout, word);
+    streams::print_decimal(stdout, number);
+    streams::write_all(stdout, b"\n");
 }

@@ -6,7 +6,7 @@ use Rattle.tree.specs.Layout.{header_bytes}
 use Rattle.tree.specs.Fields.{subtree_at}
 use Rattle.tree.specs.Refusal.{list_effects_limits, tree_of}
 use Rattle.tree.specs.Encoding.{Bytes}
-use Rattle.tree.specs.Accepted.{passed, counted_parts, counted_room, mark_long, accepted}
+use Rattle.tree.proofs.Accepted.{passed, counted_parts, counted_room, mark_long, accepted}
 use Rattle.tree.specs.Walk.{Held, held_within, held_after}
 use Rattle.file.specs.Answer.{stated, checked, checked_accepted}
 use Rattle.file.specs.declared.Checked.TheVariants.{Accepted}

@@ -1,6 +1,8 @@
 // Shows a tree file in words, a line a record.
 // docs/SHOW.md has the words. Of a file that List effects would refuse only `refused` and the number are printed.
 // Of standard input the first 79,989 bytes are read: one more than the longest file that is taken.
+#![tactic(auto)]
+
 mod buffer;
 mod words;
 
@@ -10,12 +12,11 @@ ghost use Rattle.tree.specs.Walk.{Held};
 
 use buffer::Buffer;
 use file::Checked;
-use libc::STDIN_FILENO;
 
-fn main() {
+fn main(rt: HostRuntime) {
     let mut input = [0u8; 79989];
-    let n = io::read_full(STDIN_FILENO, &mut input);
-    let mut out = [0u8; 65536];
+    let n = streams::read_full(&mut rt.stdin(), &mut input);
+    let mut out = buffer::empty(rt.stdout());
     let used = print_file(&input[..n], &mut out);
     buffer::flush(&out, used);
 }

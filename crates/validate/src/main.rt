@@ -1,31 +1,36 @@
 // Says whether Reduce would take a tree file.
 // Of standard input the first 40,009 bytes are read: one more than the longest file that is taken.
-use file::Checked;
-use libc::{STDIN_FILENO, STDOUT_FILENO};
+#![tactic(auto)]
 
-fn main() {
+use file::Checked;
+use std::io::Stdout;
+
+fn main(rt: HostRuntime) {
     let mut input = [0u8; 40009];
-    let n = io::read_full(STDIN_FILENO, &mut input);
-    print_answer(file::check(
-        &input[..n],
-        file::REDUCE_RECORDS,
-        file::REDUCE_DEPTH,
-        file::REDUCE_LOGICALS,
-    ));
+    let n = streams::read_full(&mut rt.stdin(), &mut input);
+    print_answer(
+        &mut rt.stdout(),
+        file::check(
+            &input[..n],
+            file::REDUCE_RECORDS,
+            file::REDUCE_DEPTH,
+            file::REDUCE_LOGICALS,
+        ),
+    );
 }
 
-fn print_answer(answer: Checked) {
+fn print_answer(stdout: &mut Stdout, answer: Checked) {
     match answer {
         Checked::Accepted { settings, count } => {
-            io::write_all(STDOUT_FILENO, b"accepted settings ");
-            io::print_decimal(STDOUT_FILENO, settings as u64);
-            io::write_all(STDOUT_FILENO, b" records ");
-            io::print_decimal(STDOUT_FILENO, count as u64);
+            streams::write_all(stdout, b"accepted settings ");
+            streams::print_decimal(stdout, settings as u64);
+            streams::write_all(stdout, b" records ");
+            streams::print_decimal(stdout, count as u64);
         }
         Checked::Refused(number) => {
-            io::write_all(STDOUT_FILENO, b"refused ");
-            io::print_decimal(STDOUT_FILENO, number as u64);
+            streams::write_all(stdout, b"refused ");
+            streams::print_decimal(stdout, number as u64);
         }
     }
-    io::write_all(STDOUT_FILENO, b"\n");
+    streams::write_all(stdout, b"\n");
 }

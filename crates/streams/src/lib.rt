@@ -1,0 +1,59 @@
+// What the programs read and write: an input up to a limit, whole slices, and numbers in decimal.
+// A read that fails ends the input, and a write that fails is told by a bool: a program answers, and the command `uxt` sees to the rest
+// (docs/DECISIONS.md).
+#![tactic(auto)]
+
+ghost use Rattle.std.specs.Prelude.{◌≡◌, ℕ, ◌≤◌, length, take, true, decimal};
+ghost use Rattle.std.specs.Io.KnownBytes.{Appends, Consumes};
+ghost use Rattle.streams.specs.Filled.{Filled};
+
+use itoa::Buffer;
+use std::io::{Read, Write};
+
+// Reads until the buffer is full, the input ends or a read fails, and returns how many bytes stand at the front of the buffer then. Of
+// the input no more is read, and of an empty buffer nothing is asked.
+pub fn read_full<R: Read>(reader: &mut R, buf: &mut [u8]) -> usize
+    ensures within { Filled result buf.new }
+    ensures bytes { Consumes (R.remaining reader.old) (R.remaining reader.new) (take result buf.new) }
+{
+    let mut done = 0;
+    while done < buf.len() {
+        match reader.read(&mut buf[done..]) {
+            Ok(0) => return done,
+            Ok(n) => done += n,
+            Err(_) => return done,
+        }
+    }
+    done
+}
+
+// Writes all of the bytes and returns true, or stops at the first write that takes nothing or fails and returns false, when the front of
+// them may be written.
+pub fn write_all<W: Write>(writer: &mut W, bytes: &[u8]) -> bool
+    ensures all { result ≡ true → Appends (W.contents writer.old) (W.contents writer.new) bytes.now }
+    ensures front { (n : ℕ) × (n ≤ length bytes.now)
+        × Appends (W.contents writer.old) (W.contents writer.new) (take n bytes.now) }
+{
+    let mut done = 0;
+    while done < bytes.len() {
+        match writer.write(&bytes[done..]) {
+            Ok(0) => return false,
+            Ok(n) => done += n,
+            Err(_) => return false,
+        }
+    }
+    true
+}
+
+// Writes a number in decimal, and returns what `write_all` does.
+pub fn print_decimal<W: Write>(writer: &mut W, number: u64) -> bool
+    ensures all { result ≡ true → Appends (W.contents writer.old) (W.contents writer.new) (decimal number) }
+    ensures front { (n : ℕ) × (n ≤ length (decimal number))
+        × Appends (W.contents writer.old) (W.contents writer.new) (take n (decimal number)) }
+{
+    let mut digits = Buffer::new();
+    write_all(writer, digits.format(number).as_bytes())
+}
+
+#[cfg(test)]
+mod tests;
