@@ -1,80 +1,129 @@
 """Proves and builds what the command `uxt` runs, where that is due, with a line on standard error for each crate that is proved.
 
+`rt run` and `rt lib` make a crate's program or archive in its out/; from there it is put under target/, where it is used.
+
 One build at a time: another waits. The lock is handed on to `rt`, so that it holds as long as `rt` runs, even where the command
 itself was ended.
+
+As a script, for ./test, which proves all by `rt ci`:
+
+    building.py sources       prints the state of all that the crates are made of
+    building.py passed STATE  takes the programs that `rt ci` has built and passed, if that state is still the same
 """
 
 import contextlib
 import fcntl
+import hashlib
 import os
+import pathlib
 import re
 import shutil
 import signal
 import subprocess
+import sys
+import tempfile
 import time
 
 from streams import Failed, say
 
-PROVED = re.compile(r"rt: (\w+) proved( \(.*\))")
-ARCHIVE = re.compile(r"rt: target/staticlib/lib(\w+)\.a has()")  # its crate is proved anew each time, with no line of its own
-UNCHANGED = " (unchanged since it was last proved)"
+BEGUN = re.compile(r"rt: chose --jobs \d+ for (\w+)$")
+NOT_READ = ("out", "must-fail")  # folders of a crate that a program is not made of
+ROOT = pathlib.Path(__file__).resolve().parent.parent
 
 
 def program(root, name):
-    """The path of the program, proved and built."""
-    return built(root, name, root / "target/bin" / name, ["check", name])
+    """The path of the program, proved and built. It was run on the crate's stored input, and wrote what is stored."""
+    return built(root, name, root / "target/bin" / name, prove_program)
 
 
 def library(root):
     """The path of the archive, proved and built."""
-    return built(root, "uxt", root / "target/staticlib/libuxt.a", ["staticlib", "uxt"])
+    return built(root, "uxt", root / "target/staticlib/libuxt.a", prove_library)
 
 
-def built(root, name, path, words):
-    """The path of what `rt` makes of a crate by these words. That `rt` passed it is said by a mark, and not by the file itself: this is
-    there, too, where `rt` was stopped while it linked, or where the program does not write what it must."""
-    crates, mark = needed(root, name), root / "target/passed" / path.name
-    if not is_built(root, crates, path, mark):
+def built(root, name, path, proved):
+    """The path of what is made of a crate. That `rt` passed it is said by a mark, and not by the file itself: of a crate's out/ nothing
+    is known where `rt` was stopped, or where the program does not write what it must."""
+    crates = needed(root, name)
+    if not is_built(root, crates, path):
         with locked(root) as lock:
-            if not is_built(root, crates, path, mark):  # another may have built it
-                began = time.time_ns()
-                prove(root, words, crates, lock)
-                if newest(root, crates) < began:  # else the sources were changed meanwhile, and the next use looks again
-                    mark.parent.mkdir(exist_ok=True)
-                    mark.touch()
+            if not is_built(root, crates, path):  # another may have built it
+                before = state(root, crates)
+                take(proved(root, crates, lock), path)
+                if state(root, crates) == before:  # else the sources were changed meanwhile, and the next use looks again
+                    mark(root, crates, path)
     return path
 
 
-def needed(root, name):
-    """The crate and all that it rests on, of those in crates.txt."""
+# ---- Crates
+
+
+def listed(root):
+    """What each crate of crates.txt uses, by its name."""
     uses = {}
-    for line in (root / "crates.txt").read_text().splitlines():
-        crate, _, others = line.partition(":")
-        uses[crate] = others.split()
-    found, waiting = set(), [name]
-    while waiting:
-        crate = waiting.pop()
-        if crate in uses and crate not in found:
-            found.add(crate)
-            waiting += uses[crate]
+    for line in (root / "crates.txt").read_text(encoding="utf-8").splitlines():
+        crate, _, others = line.partition("#")[0].partition(":")
+        if crate.strip():
+            uses[crate.split()[0]] = others.split()
+    return uses
+
+
+def needed(root, name):
+    """All that the crate rests on, of those in crates.txt, in the order in which `rt` proves them; last the crate itself."""
+    uses, found = listed(root), []
+
+    def add(crate):
+        for other in uses[crate]:
+            if other in uses and other not in found:
+                add(other)
+        found.append(crate)
+
+    add(name)
     return found
 
 
-def is_built(root, crates, path, mark):
-    """The file was passed, and neither it nor a source of it is newer."""
-    if not (path.exists() and mark.exists()):
-        return False
-    return max(path.stat().st_mtime_ns, newest(root, crates)) <= mark.stat().st_mtime_ns
-
-
-def newest(root, crates):
-    """When a file or a folder of these crates, or the list of all crates, was last changed."""
-    times = [(root / "crates.txt").stat().st_mtime_ns]
+def state(root, crates):
+    """A sum that changes with each file of these crates that is changed, added or removed, and with the list of all crates."""
+    files = [root / "crates.txt"]
     for crate in crates:
-        for path, _, names in os.walk(root / "crates" / crate):
-            times.append(os.stat(path).st_mtime_ns)
-            times += (os.stat(f"{path}/{name}").st_mtime_ns for name in names)
-    return max(times)
+        for folder, folders, names in os.walk(root / "crates" / crate):
+            folders[:] = [name for name in folders if name not in NOT_READ]
+            files += [os.path.join(folder, name) for name in names]
+    stats = sorted((os.path.relpath(file, root), os.stat(file)) for file in files)
+    told = [(file, stat.st_size, stat.st_mtime_ns, stat.st_ino) for file, stat in stats]
+    return hashlib.sha256(repr(told).encode()).hexdigest()
+
+
+# ---- What is made
+
+
+def is_built(root, crates, path):
+    """The file was passed, and neither it nor what it is made of has changed since."""
+    file = marked(root, path)
+    return path.exists() and file.exists() and file.read_text(encoding="ascii") == made_of(root, crates, path)
+
+
+def mark(root, crates, path):
+    file = marked(root, path)
+    file.parent.mkdir(exist_ok=True)
+    file.write_text(made_of(root, crates, path), encoding="ascii")
+
+
+def marked(root, path):
+    return root / "target/passed" / path.name
+
+
+def made_of(root, crates, path):
+    stat = path.stat()
+    return f"{state(root, crates)} {stat.st_size} {stat.st_mtime_ns}\n"
+
+
+def take(made, path):
+    """A file is written beside its place and then moved there, so that who has the old one open keeps it."""
+    path.parent.mkdir(parents=True, exist_ok=True)
+    new = path.with_name(f".{path.name}.{os.getpid()}")
+    shutil.copy(made, new)
+    os.replace(new, path)
 
 
 @contextlib.contextmanager
@@ -90,18 +139,40 @@ def locked(root):
         yield lock
 
 
-def prove(root, words, crates, lock):
-    """Runs `rt`, whose whole output is printed where it fails."""
+# ---- Runs of `rt`
+
+
+def prove_program(root, crates, lock):
+    """The program of the last crate, once it has written what it must: `rt run` hands it standard input and output."""
+    folder = root / "crates" / crates[-1]
+    stored = {name: folder / name if (folder / name).is_file() else os.devnull for name in ("stdin", "stdout")}
+    with open(stored["stdin"], "rb") as given, tempfile.TemporaryFile() as written, open(stored["stdout"], "rb") as wanted:
+        prove("run", folder, crates, lock, stdin=given, stdout=written, stderr=subprocess.PIPE)
+        written.seek(0)
+        if written.read() != wanted.read():
+            raise Failed(f"{crates[-1]} does not write what crates/{crates[-1]}/stdout has")
+    return folder / "out" / crates[-1]
+
+
+def prove_library(root, crates, lock):
+    """The archive of the last crate."""
+    folder = root / "crates" / crates[-1]
+    prove("lib", folder, crates, lock, stdin=subprocess.DEVNULL, stdout=subprocess.PIPE, stderr=subprocess.STDOUT)
+    return folder / "out" / f"lib{crates[-1]}.a"
+
+
+def prove(word, folder, crates, lock, **streams):
+    """Runs `rt` in the crate's folder. All that it says is printed where it fails."""
     if shutil.which("rt") is None:
         raise Failed("rt, the Rattle toolchain, is missing: it is not on the PATH")
-    say(f"proving and building {words[-1]}, {len(crates)} crates; from nothing this takes minutes")
-    with subprocess.Popen(["rt", *words], cwd=root, stdin=subprocess.DEVNULL, stdout=subprocess.PIPE, stderr=subprocess.STDOUT,
-                          pass_fds=[lock.fileno()], start_new_session=True, encoding="utf-8", errors="replace") as running:
+    say(f"proving and building {crates[-1]}, {len(crates)} crates; from nothing this takes minutes")
+    with subprocess.Popen(["rt", word], cwd=folder, pass_fds=[lock.fileno()], start_new_session=True, encoding="utf-8",
+                          errors="replace", **streams) as running:
         with stopped_with_us(running):
-            log = followed(running.stdout, len(crates))
+            log = followed(running.stdout or running.stderr, crates)
     if running.returncode != 0:
         say("this is what rt says:\n" + "".join(log).rstrip())
-        raise Failed(f"rt {' '.join(words)} failed; where nothing above says why, remove target/ and try again")
+        raise Failed(f"rt {word} failed in crates/{crates[-1]}; where nothing above says why, remove crates/*/out/ and try again")
 
 
 @contextlib.contextmanager
@@ -114,15 +185,42 @@ def stopped_with_us(running):
         raise
 
 
-def followed(lines, total):
-    """All lines; those that say of a crate that it was proved just now are told on the way."""
-    log, count = [], 0
+def followed(lines, crates):
+    """All lines. Of each crate that `rt` begins and then proves it is told on the way."""
+    log, crate, began = [], None, 0
     for line in lines:
         log.append(line)
-        if proved := PROVED.match(line) or ARCHIVE.match(line):
-            count += 1
-            crate, how = proved.groups()
-            if how != UNCHANGED:
-                say(f"proved {count} of {total} crates: {crate}{how}")
+        if begun := BEGUN.match(line):
+            crate, began = begun[1], time.monotonic()
+        elif line.startswith("logic=proved ") and crate in crates:
+            say(f"proved {crates.index(crate) + 1} of {len(crates)} crates: {crate} ({time.monotonic() - began:.0f} s)")
+            crate = None
     return log
 
+
+# ---- Behind `rt ci`
+
+
+def passed(root, before):
+    """Takes the programs that `rt ci` left in each crate's out/, if the crates are still as they were before it."""
+    uses = listed(root)
+    with locked(root):
+        if state(root, uses) == before:
+            for name in uses:
+                made, path = root / "crates" / name / "out" / name, root / "target/bin" / name
+                if made.is_file():
+                    take(made, path)
+                    mark(root, needed(root, name), path)
+
+
+def main(words):
+    if words == ["sources"]:
+        print(state(ROOT, listed(ROOT)))
+    elif len(words) == 2 and words[0] == "passed":
+        passed(ROOT, words[1])
+    else:
+        sys.exit(__doc__)
+
+
+if __name__ == "__main__":
+    main(sys.argv[1:])

@@ -19,6 +19,7 @@ import sys
 import tempfile
 import time
 
+
 ROOT = pathlib.Path(__file__).resolve().parent.parent
 UXT = ROOT / "uxt"
 EXAMPLES = ROOT / "examples"
@@ -219,6 +220,8 @@ def at_once():
 # ---- First uses
 
 NAME = "derived_rows"  # the program that rests on the fewest crates
+CRATES = 4  # it and those that it rests on
+LOWEST = "stated"
 BUILT = 600  # seconds that a build may take
 
 
@@ -227,9 +230,10 @@ def first_uses():
         copy = pathlib.Path(folder, "a copy")
         copy.mkdir()
         for name in ("crates", "tools"):
-            shutil.copytree(ROOT / name, copy / name, ignore=shutil.ignore_patterns("__pycache__"))
+            shutil.copytree(ROOT / name, copy / name, ignore=shutil.ignore_patterns("__pycache__", "out"))
         for name in ("crates.txt", "uxt"):
             shutil.copy2(ROOT / name, copy)
+        make_new(copy)
         without_tools(copy)
         told(copy)
         require(not goes_on(copy, 4), "interrupted, and the proofs go on")
@@ -239,6 +243,12 @@ def first_uses():
         require(is_proving(copy), "killed, and what still runs holds no lock")
         two_at_once(copy)
         not_passed(copy)
+
+
+def make_new(copy):
+    """Changes the lowest crate by a comment: what another copy of the repository has proved, `rt` would take from there."""
+    with open(copy / f"crates/{LOWEST}/src/lib.rt", "a", encoding="utf-8") as source:
+        source.write(f"// {time.time_ns()}\n")
 
 
 def started(copy):
@@ -263,8 +273,10 @@ def told(copy):
     """A first use tells each crate that is proved, and how many there are; it is interrupted as by a key."""
     running = started(copy)
     lines = [running.stderr.readline() for _ in range(2)]
-    require(lines[0] == f"uxt: proving and building {NAME}, 3 crates; from nothing this takes minutes\n".encode()
-            and re.fullmatch(rb"uxt: proved 1 of 3 crates: stated \(\d+ s\)\n", lines[1]), f"a first use says {lines!r}")
+    told, proved = (line.decode() for line in lines)
+    require(told == f"uxt: proving and building {NAME}, {CRATES} crates; from nothing this takes minutes\n"
+            and re.fullmatch(rf"uxt: proved 1 of {CRATES} crates: {LOWEST} \(\d+ s\)\n", proved),
+            f"a first use says {lines!r}")
     ended_by(running, signal.SIGINT)
 
 
@@ -317,20 +329,21 @@ def not_passed(copy):
     stored = copy / f"crates/{NAME}/stdout"
     expected = stored.read_bytes()
     stored.write_bytes(expected + b"more\n")
-    is_not_run(copy)
-    is_not_run(copy)
+    other = f"{NAME} does not write what crates/{NAME}/stdout has"
+    is_not_run(copy, other)
+    is_not_run(copy, other)
     stored.write_bytes(expected)
     out, err = started(copy).communicate(timeout=BUILT)
     require(out == expected, f"passed again, and it answers {out!r}, {err!r}")
     with open(copy / f"crates/{NAME}/src/main.rt", "a", encoding="utf-8") as source:
         source.write("\nfn wrong() -> u8 {\n    256\n}\n")
-    is_not_run(copy)
+    is_not_run(copy, f"rt run failed in crates/{NAME}")
 
 
-def is_not_run(copy):
+def is_not_run(copy, why):
     running = started(copy)
     out, err = running.communicate(timeout=BUILT)
-    require((running.returncode, out) == (2, b"") and f"uxt: rt check {NAME} failed".encode() in err, f"not passed: {out!r}, {err!r}")
+    require((running.returncode, out) == (2, b"") and f"uxt: {why}".encode() in err, f"not passed: {out!r}, {err!r}")
 
 
 def main(words):

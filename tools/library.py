@@ -28,7 +28,7 @@ Libs: -L"${{libdir}}" -luxt
 
 
 def build(root, proved):
-    """Makes the archive, the shared library and its two links, of the proved archive. Answers with how to use them."""
+    """Makes the archive and the shared library, under its three names, of the proved archive. Answers with how to use them."""
     try:
         made = build_in(root, proved)
     except OSError as error:
@@ -62,7 +62,8 @@ def build_in(root, proved):
         compile_shared(root, archive, shared)
         for file in (archive, shared):
             os.replace(file, made / file.name)
-    link_names(root, made)
+    for name in names(root, made):  # no links: rt ci takes none in the repository
+        put(name, (made / shared_name(root)).read_bytes())
     return made
 
 
@@ -97,15 +98,19 @@ def soname(root):
     return f"libuxt.so.{version(root).split('.')[0]}"
 
 
+def names(root, folder):
+    """What the loader and the linker look for, in the folder of the shared library."""
+    return [folder / soname(root), folder / "libuxt.so"]
+
+
 def link_names(root, folder):
-    """Links the names for the loader and for the linker to the shared library in the folder. Answers with them."""
-    names = [folder / soname(root), folder / "libuxt.so"]
-    for name in names:
+    """Links these names to the shared library. Answers with them."""
+    for name in names(root, folder):
         new = beside(name)
         new.unlink(missing_ok=True)
         new.symlink_to(shared_name(root))
         os.replace(new, name)
-    return names
+    return names(root, folder)
 
 
 # ---- What is made

@@ -15,7 +15,7 @@ USE = re.compile(r"^\s*(?:pub |ghost )*use ([^;{}\n]+?)\.\{([^}]*)\}", re.M)
 SIGNED = re.compile(r"^\s*(?:(?:abbrev|unfoldable|pub|data|record|module) )*((?:[\w'-]+ )*[\w'-]+)\s*:\s", re.M)
 BOUND = re.compile(r"[({]((?:[\w'-]+ )*[\w'-]+) : ")
 COMMENT = re.compile(r"(--|//).*")
-# What the upgrade has brought to snake case already, and a definition falls together with now.
+# What the upgrade has brought to snake case already in specifications and proofs, and a definition falls together with now.
 TURNED = ["right_of", "in_order", "end_fits", "of_two", "join_kept", "after_first", "whole_by"]
 
 
@@ -96,6 +96,8 @@ def main():
         kept = from_library(text)
         if file.parts[2] == "proofs":  # its own names are those of goals
             kept |= set(re.findall(r"^(?:pub )?([\w'-]+) :", text, re.M))
+        if file.parts[2] == "src":  # a function may have such a name
+            kept |= set(TURNED)
         file.write_text(in_code(text, lambda name: name if name in kept else turned.get(name, name)))
 
 

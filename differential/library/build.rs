@@ -5,7 +5,7 @@ use std::{env, fs, process::exit};
 fn main() {
     println!("cargo:rerun-if-env-changed=UXT_LIBRARY");
     let Ok(folder) = env::var("UXT_LIBRARY") else {
-        fail("UXT_LIBRARY is not set: name the folder that `rt staticlib uxt` wrote libuxt.a to");
+        fail("UXT_LIBRARY is not set: name target/staticlib, where `./uxt lib` puts the proved libuxt.a");
     };
     let Ok(folder) = fs::canonicalize(&folder) else {
         fail(&format!("UXT_LIBRARY names no folder: {folder}"));
