@@ -1,132 +1,137 @@
 // `fold_string_addition_chain`, and the rule of an addition that uses it.
 #![tactic(auto)]
 
+ghost use Rattle.std.specs.Prelude.{◌≡◌, ◌+◌, ◌-◌, ◌<◌, ◌≤◌, [], ◌∷◌};
+ghost use Rattle.tree.specs.Tree.{size};
+ghost use Rattle.tree.specs.Layout.{version_in};
+ghost use Rattle.tree.specs.Room.{records_in};
 ghost use Rattle.rules.specs.Addition.{is_dropped_right};
-ghost use Rattle.readings.specs.Node.{SomeNode, Tells};
+ghost use Rattle.readings.specs.View.{tree};
 ghost use Rattle.output.specs.Given.{GivenTree};
-ghost use Rattle.addition.specs.Sides.{GivenOne, Emptied, RightFolded, GivenSides, SidesFolded};
+ghost use Rattle.output.specs.Records.{Recorded};
+ghost use Rattle.output.specs.Trees.{Wrote};
+ghost use Rattle.addition.specs.Sides.{GivenOne, Emptied, folded_right, GivenSides, SidesFolded};
 ghost use Rattle.addition.specs.Fold.{Folds, RemovesAddition};
 
-use fields::kind;
+use fields::{Kind, Record};
+use output::{Counts, MadeHead};
+use readings::Node;
 
 // Where a folded side ends, and whether it is a string.
-#[derive(Drop)]
+#[derive(Clone, Copy)]
 pub struct Folded {
     pub next: usize,
     pub string: bool,
 }
 
 // The tree that stands in out from record at to record next: "an unflagged left becomes the empty literal at its own place".
+#[tactic(auto, using(tree::specs::Room::place_said, crate::specs::Sides::one_inside, crate::specs::Sides::flagged_stays, crate::specs::Sides::clear_emptied))]
 fn empty_unless_flagged(out: &mut [u8], at: usize, next: usize) -> usize
     requires { GivenOne out.old at next }
     ensures { Emptied out.old out.new at next result }
 {
-    if readings::flagged_at(out, at) {
+    let side = Record { src: out, at };
+    if readings::flagged(side) {
         return next;
     }
-    let place = fields::place_at(out, at);
-    output::make_at(out, at, kind::LITERAL as u8, 0, 18, place, 0, 1);
+    let empty = MadeHead {
+        kind: Kind::Literal as u8,
+        sub: 0,
+        facts: 18,
+        place: side.place(),
+    };
+    let counts = Counts {
+        children: 0,
+        records: 1,
+    };
+    output::make_at(out, at, empty, counts);
     at + 1
 }
 
 // "a right side that is no symbol and unflagged is dropped"
-fn is_dropped_right(src: &[u8], at: usize) -> bool
-    requires { SomeNode src.now at }
-    ensures { Tells src.now at is_dropped_right result }
+#[tactic(auto, unfolding(rules::specs::Addition::is_dropped_right))]
+fn is_dropped_right(node: Node) -> bool
+    ensures { result ≡ is_dropped_right (tree node.entry) }
 {
-    if readings::possible_symbol_at(src, at) {
-        return false;
-    }
-    !readings::flagged_at(src, at)
+    !node.possible_symbol() && !node.is_flagged()
 }
 
-// The right side at record at: "a right side that is a string and unflagged becomes the empty literal".
-fn fold_right(src: &[u8], at: usize, size: usize, out: &mut [u8], pos: usize) -> usize
-    requires { GivenTree src.now at size out.old pos }
-    ensures { RightFolded src.now at size out.old out.new pos result }
+// The right side: "a right side that is a string and unflagged becomes the empty literal".
+#[tactic(auto, using(readings::specs::Alone::own_string_fact, crate::specs::Sides::copied_one, crate::specs::Sides::right_emptied, crate::specs::Sides::right_copied))]
+fn fold_right(node: Node, out: &mut [u8], pos: usize) -> usize
+    requires { GivenTree node out.old pos }
+    ensures { Wrote out.old out.new pos result (folded_right (tree node.entry) ∷ []) }
 {
-    let next = output::copy_tree(src, at, size, out, pos);
-    if fields::string_fact_at(src, at) {
+    let next = output::copy_tree(node, out, pos);
+    if node.record.has_string_fact() {
         return empty_unless_flagged(out, pos, next);
     }
     next
 }
 
-// The addition at record at, written from record pos of out on. Its left side stands behind that record up to record next, folded
-// already, and string says whether it is one; its right side is the tree at record right, of size records.
-fn fold_sides(
-    src: &[u8],
-    at: usize,
-    right: usize,
-    size: usize,
-    string: bool,
-    out: &mut [u8],
-    pos: usize,
-    next: usize,
-) -> usize
-    requires { GivenSides src.now at right size out.old pos next }
-    ensures { SidesFolded src.now at right size string out.old out.new pos next result }
+// The addition, over two sides that stand behind record pos of out, up to record end.
+fn keep_over(node: Node, out: &mut [u8], pos: usize, end: usize)
+    requires { (pos + 1 ≤ records_in out.old) × (version_in out.old ≡ version_in node.record.src.now) × (pos ≤ end) × (end < pos + 65536) }
+    ensures { Recorded out.old out.new pos (tree node.entry).head 2 (end - pos) }
 {
-    if string {
-        let left = empty_unless_flagged(out, pos + 1, next);
-        if is_dropped_right(src, right) {
-            output::move_down(out, pos, left - pos - 1);
-            return left - 1;
+    let counts = Counts {
+        children: 2,
+        records: (end - pos) as u16,
+    };
+    output::keep_at(node.record, out, pos, counts);
+}
+
+// The addition, written from record pos of out on. Its left side stands behind that record, folded already.
+#[tactic(auto, using(crate::specs::Sides::one_addition))]
+fn fold_sides(node: Node, right: Node, out: &mut [u8], pos: usize, left: Folded) -> usize
+    requires { GivenSides node right out.old pos left.next }
+    ensures { SidesFolded (tree node.entry) (tree right.entry) left.string out.old out.new pos left.next result }
+{
+    if left.string {
+        let next = empty_unless_flagged(out, pos + 1, left.next);
+        if is_dropped_right(right) {
+            output::move_down(out, pos, next - pos - 1);
+            return next - 1;
         }
-        let end = output::copy_tree(src, right, size, out, left);
-        output::keep_at(src, at, out, pos, 2, end - pos);
+        let end = output::copy_tree(right, out, next);
+        keep_over(node, out, pos, end);
         return end;
     }
-    let end = fold_right(src, right, size, out, next);
-    output::keep_at(src, at, out, pos, 2, end - pos);
+    let end = fold_right(right, out, left.next);
+    keep_over(node, out, pos, end);
     end
 }
 
-// The tree at record at, of size records, written to out from record pos on. "The fold goes down left children only."
-fn fold_string_addition_chain(
-    src: &[u8],
-    at: usize,
-    size: usize,
-    out: &mut [u8],
-    pos: usize,
-) -> Folded
-    requires { GivenTree src.now at size out.old pos }
-    ensures { Folds src.now at size out.old out.new pos result.next result.string }
+// The tree, written to out from record pos on. "The fold goes down left children only."
+#[tactic(auto, using(readings::specs::Alone::own_string_fact, readings::specs::Sides::left_smaller, crate::specs::Fold::lone_folds, crate::specs::Fold::sum_folds, crate::specs::Fold::left_given))]
+fn fold_string_addition_chain(node: Node, out: &mut [u8], pos: usize) -> Folded
+    requires { GivenTree node out.old pos × (size (tree node) < 65536) }
+    ensures { Folds (tree node.entry) out.old out.new pos result.next result.string }
 {
-    if fields::is_addition(src, at) {
-        let left_size = fields::subtree_at(src, at + 1);
-        let left = fold_string_addition_chain(src, at + 1, left_size, out, pos + 1);
-        let left_next = left.next;
-        let left_string = left.string;
-        let right = at + 1 + left_size;
-        let right_size = fields::subtree_at(src, right);
-        let next = fold_sides(src, at, right, right_size, left_string, out, pos, left_next);
-        if left_string {
-            return Folded { next, string: true };
+    match node.sides() {
+        Some((left, right)) => {
+            let folded = fold_string_addition_chain(left, out, pos + 1);
+            let next = fold_sides(node, right, out, pos, folded);
+            let string = folded.string || right.record.has_string_fact();
+            Folded { next, string }
         }
-        let string = fields::string_fact_at(src, right);
-        return Folded { next, string };
+        None => {
+            let next = output::copy_tree(node, out, pos);
+            let string = node.record.has_string_fact();
+            Folded { next, string }
+        }
     }
-    let next = output::copy_tree(src, at, size, out, pos);
-    let string = fields::string_fact_at(src, at);
-    Folded { next, string }
 }
 
 // "`fold_string_addition_chain`, then removable exactly if a string literal remains"
-pub fn remove_unused_addition(
-    src: &[u8],
-    at: usize,
-    size: usize,
-    out: &mut [u8],
-    pos: usize,
-) -> usize
-    requires { GivenTree src.now at size out.old pos }
-    ensures { RemovesAddition src.now at size out.old out.new pos result }
+pub fn remove_unused_addition(node: Node, out: &mut [u8], pos: usize) -> usize
+    requires { GivenTree node out.old pos × (size (tree node) < 65536) }
+    ensures { RemovesAddition (tree node.entry) out.old out.new pos result }
 {
-    let folded = fold_string_addition_chain(src, at, size, out, pos);
-    let next = folded.next;
-    if fields::kind_at(out, pos) == kind::LITERAL {
+    let folded = fold_string_addition_chain(node, out, pos);
+    let kept = Record { src: out, at: pos };
+    if kept.kind() == Kind::Literal as u8 {
         return pos;
     }
-    next
+    folded.next
 }

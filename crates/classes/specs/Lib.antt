@@ -1,2 +1,1 @@
-pub mod Extract
 pub mod Class

@@ -1,62 +1,62 @@
 // `remove_unused_class`: what a class gives up where it is not kept.
 #![tactic(auto)]
 
-ghost use Rattle.output.specs.Given.{GivenList, GivenTree};
-ghost use Rattle.classes.specs.Extract.{GivenAtMostOne, CopiesFlagged, ExtractsElement, ExtractsElements};
-ghost use Rattle.classes.specs.Class.{GivenClass, RemovesClass};
+ghost use Rattle.std.specs.Prelude.{◌++◌, option_map, option_to_list};
+ghost use Rattle.rules.specs.Class.{extracted, extracted_of_element};
+ghost use Rattle.rules.specs.Facts.{flagged};
+ghost use Rattle.rules.specs.Lists.{concat_map, filter};
+ghost use Rattle.rules.specs.Made.{place_of};
+ghost use Rattle.rules.specs.Reduce.{sequence_if_any};
+ghost use Rattle.readings.specs.View.{left, tree};
+ghost use Rattle.output.specs.Given.{GivenTree, GivenTrees};
+ghost use Rattle.output.specs.Trees.{Wrote};
+ghost use Rattle.classes.specs.Class.{GivenAtMostOne, GivenClass};
 
-// "a flagged heritage", "a flagged computed key": the tree at record at, of size records, or none.
-fn copy_if_flagged(src: &[u8], at: usize, size: usize, out: &mut [u8], pos: usize) -> usize
-    requires { GivenAtMostOne src.now at size out.old pos }
-    ensures { CopiesFlagged src.now at size out.old out.new pos result }
+use readings::{Node, Trees};
+
+// "a flagged heritage", "a flagged computed key", or none.
+fn copy_if_flagged(node: Option<Node>, out: &mut [u8], pos: usize) -> usize
+    requires { GivenAtMostOne node out.old pos }
+    ensures { Wrote out.old out.new pos result (filter flagged (option_to_list (option_map tree node.entry))) }
 {
-    if size == 0 {
-        return pos;
+    match node {
+        Some(node) if node.is_flagged() => output::copy_tree(node, out, pos),
+        _ => pos,
     }
-    if readings::flagged_at(src, at) {
-        return output::copy_tree(src, at, size, out, pos);
-    }
-    pos
 }
 
 // "per element a flagged computed key, then any static value, none of them reduced"
-fn extract_element(src: &[u8], at: usize, size: usize, out: &mut [u8], pos: usize) -> usize
-    requires { GivenTree src.now at size out.old pos }
-    ensures { ExtractsElement src.now at size out.old out.new pos result }
+fn extract_element(element: Node, out: &mut [u8], pos: usize) -> usize
+    requires { GivenTree element out.old pos }
+    ensures { Wrote out.old out.new pos result (extracted_of_element (tree element.entry)) }
 {
-    let key = readings::first_size(src, at, fields::sub_at(src, at) / 16 % 2);
-    let next = copy_if_flagged(src, at + 1, key, out, pos);
-    if readings::has_static_value_at(src, at) {
-        let value = size - 1 - key;
-        output::copy_records(src, at + 1 + key, value, out, next);
-        return next + value;
+    let (key, value) = element.key_and_value();
+    let next = copy_if_flagged(key, out, pos);
+    if readings::has_static_value(element.record) {
+        output::copy_trees(value, out, next)
+    } else {
+        next
     }
-    next
 }
 
-// The elements from record at on, in size records.
-fn extract_elements(src: &[u8], at: usize, size: usize, out: &mut [u8], pos: usize) -> usize
-    requires { GivenList src.now at size out.old pos }
-    ensures { ExtractsElements src.now at size out.old out.new pos result }
+fn extract_elements(elements: Trees, out: &mut [u8], pos: usize) -> usize
+    requires { GivenTrees elements out.old pos }
+    ensures { Wrote out.old out.new pos result (concat_map extracted_of_element (left elements.entry)) }
 {
-    let end = at + size;
-    let mut p = at;
     let mut next = pos;
-    while p < end {
-        let subtree = fields::subtree_at(src, p);
-        next = extract_element(src, p, subtree, out, next);
-        p += subtree;
+    for element in elements {
+        next = extract_element(element, out, next);
     }
     next
 }
 
 // "None: removable. One or more: always a sequence."
-pub fn remove_unused_class(src: &[u8], at: usize, size: usize, out: &mut [u8], pos: usize) -> usize
-    requires { GivenClass src.now at size out.old pos }
-    ensures { RemovesClass src.now at size out.old out.new pos result }
+pub fn remove_unused_class(node: Node, out: &mut [u8], pos: usize) -> usize
+    requires { GivenClass node out.old pos }
+    ensures { Wrote out.old out.new pos result (sequence_if_any (place_of (tree node.entry)) (extracted (tree node.entry))) }
 {
-    let base = readings::first_size(src, at, fields::sub_at(src, at) / 2 % 2);
-    let heritage = copy_if_flagged(src, at + 1, base, out, pos + 1);
-    let next = extract_elements(src, at + 1 + base, size - 1 - base, out, heritage);
-    rewrite::sequence_if_any(src, at, out, pos, next)
+    let (heritage, elements) = node.heritage_and_elements();
+    let first = copy_if_flagged(heritage, out, pos + 1);
+    let next = extract_elements(elements, out, first);
+    rewrite::sequence_if_any(node, out, pos, next)
 }

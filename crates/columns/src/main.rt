@@ -6,7 +6,7 @@
 fn main(rt: HostRuntime) {
     let mut input = [0u8; 32009];
     let n = streams::read_full(&mut rt.stdin(), &mut input);
-    let mut text = [0u8; 384000];
-    let length = two_columns::write_columns(&input[..n], &mut text);
-    streams::write_all(&mut rt.stdout(), &text[..length]);
+    let mut text = two_columns::Text::new();
+    two_columns::write_columns(&input[..n], &mut text);
+    streams::write_all(&mut rt.stdout(), text.as_bytes());
 }

@@ -1,5 +1,8 @@
 -- The ancestors of a use of `this` in the syntax tree, a byte each. "lists run innermost first"
-use Rattle.std.specs.Prelude.{Bool, true, false, cond, ◌&&◌, ◌||◌, List, [], ◌∷◌, ℕ, eqb}
+use Rattle.std.specs.Prelude.{◌≡◌, Bool, true, false, cond, ◌&&◌, ◌||◌, List, [], ◌∷◌, ℕ, ◌<◌, eqb, Result, MatchResult}
+use Rattle.refusal.specs.declared.Refusal.{Refusal}
+use Rattle.derived.specs.declared.ancestor.Ancestor.{Ancestor}
+use Rattle.derived.specs.declared.ancestor.Ancestor.TheVariants.{Other, FieldOrAccessorValue, ConstructorMethod, ClassBody}
 
 -- "0 other, 1 field or accessor value, 2 constructor method, 3 class body, 4 with heritage"
 abbrev pub field_or_accessor_value : ℕ
@@ -22,7 +25,7 @@ is_class_body ancestor = eqb ancestor class_body || has_heritage ancestor
 
 -- "walk ancestors: a field or accessor value, no; after a constructor method, the next class body answers by its heritage. End of list: no."
 -- `found`: a constructor method has been met. A class body that is met before one, and any other ancestor, is passed over.
-unfoldable pub walk_ancestors : Bool → List ℕ → Bool
+abbrev pub walk_ancestors : Bool → List ℕ → Bool
 walk_ancestors found [] = false
 walk_ancestors found (ancestor ∷ outer) =
     cond (eqb ancestor field_or_accessor_value) false
@@ -32,3 +35,14 @@ walk_ancestors found (ancestor ∷ outer) =
 
 abbrev pub constructor_class_has_heritage : List ℕ → Bool
 constructor_class_has_heritage ancestors = walk_ancestors false ancestors
+
+-- the byte that stands for an ancestor
+abbrev pub code_of : Ancestor → ℕ
+code_of Other = 0
+code_of FieldOrAccessorValue = field_or_accessor_value
+code_of ConstructorMethod = constructor_method
+code_of (ClassBody extends) = cond extends class_body_with_heritage class_body
+
+-- A byte that stands for no ancestor is over 4.
+abbrev pub Decodes : ℕ → Result Ancestor Refusal → Type 0
+Decodes byte r = MatchResult r (λ ancestor. code_of ancestor ≡ byte) (λ e. (e ≡ Refusal.Ancestor) × (4 < byte))

@@ -3,10 +3,10 @@
 // bytes are read.
 #![tactic(auto)]
 
-ghost use Rattle.std.specs.Prelude.{◌≤◌, ◌<◌, length};
+ghost use Rattle.std.specs.Prelude.{◌<◌, length, IfSome};
 
-use derived::Answer;
-use std::io::Stdout;
+use refusal::Refusal;
+use std::io::{Stdout, Write};
 
 fn main(rt: HostRuntime) {
     let mut input = [0u8; 131072];
@@ -15,82 +15,39 @@ fn main(rt: HostRuntime) {
 }
 
 fn answer_cases(stdout: &mut Stdout, input: &[u8]) {
-    let mut at = 0;
-    while at < input.len() {
-        at = answer_case(stdout, input, at);
+    let mut left = input;
+    while let Some((scopes, ancestors, rest)) = split_case(left) {
+        print_answer(
+            stdout,
+            derived::derived_constructor_this_scope(scopes, ancestors),
+        );
+        left = rest;
     }
 }
 
-// Answers the case that stands at `at`, and returns where the next one stands. A case that has no ancestors list is cut short, and is
-// not answered.
-fn answer_case(stdout: &mut Stdout, input: &[u8], at: usize) -> usize
-    requires { at < length input.now }
-    ensures { (at < result) × (result ≤ length input.now) }
+// The scopes and the ancestors of the case that stands first, and what stands behind it. A case that has no ancestors list is cut
+// short, and is not answered.
+fn split_case(input: &[u8]) -> Option<(&[u8], &[u8], &[u8])>
+    ensures { IfSome result (λ case. length case.2.now < length input.now) }
 {
-    let scopes = list_at(input, at);
-    let scopes_start = scopes.start;
-    let scopes_end = scopes.end;
-    if scopes_end == input.len() {
-        return scopes_end;
-    }
-    let ancestors = list_at(input, scopes_end);
-    let ancestors_start = ancestors.start;
-    let ancestors_end = ancestors.end;
-    print_answer(
-        stdout,
-        derived::derived_constructor_this_scope(
-            &input[scopes_start..scopes_end],
-            &input[ancestors_start..ancestors_end],
-        ),
-    );
-    ancestors_end
+    let (scopes, rest) = split_list(input)?;
+    let (ancestors, rest) = split_list(rest)?;
+    Some((scopes, ancestors, rest))
 }
 
-// Where the bytes of a list start and end in the input.
-#[derive(Drop)]
-struct Part {
-    start: usize,
-    end: usize,
-}
-
-// The list that stands at `at`: of one that is cut short, what is there.
-fn list_at(input: &[u8], at: usize) -> Part
-    requires { at < length input.now }
-    ensures { (at < result.start) × (result.start ≤ result.end) × (result.end ≤ length input.now) }
+// The list that stands first, and what stands behind it: of one that is cut short, what is there.
+fn split_list(input: &[u8]) -> Option<(&[u8], &[u8])>
+    ensures { IfSome result (λ list. length list.1.now < length input.now) }
 {
-    let start = at + 1;
-    let count = wide(input[at]);
-    let left = input.len() - start;
-    if count < left {
-        Part {
-            start,
-            end: start + count,
-        }
-    } else {
-        Part {
-            start,
-            end: start + left,
-        }
-    }
+    let (&count, rest) = input.split_first()?;
+    Some(rest.split_at(rest.len().min(usize::from(count))))
 }
 
-// The cast of a parameter needs no proof that the byte fits.
-fn wide(byte: u8) -> usize {
-    byte as usize
-}
-
-fn print_answer(stdout: &mut Stdout, answer: Answer) {
-    match answer {
-        Answer::Yes => {
-            streams::write_all(stdout, b"yes\n");
-        }
-        Answer::No => {
-            streams::write_all(stdout, b"no\n");
-        }
-        Answer::Refused(number) => {
-            streams::write_all(stdout, b"refused ");
-            streams::print_decimal(stdout, number as u64);
-            streams::write_all(stdout, b"\n");
-        }
-    }
+// A write that fails is passed over.
+fn print_answer(stdout: &mut Stdout, answer: Result<bool, Refusal>) {
+    let _ = match answer {
+        Ok(true) => writeln!(stdout, "yes"),
+        Ok(false) => writeln!(stdout, "no"),
+        Err(refusal) => writeln!(stdout, "{refusal}"),
+    };
 }

@@ -2,76 +2,54 @@
 // A file stands behind its length in two bytes; one that is cut short is not checked. At most 65,536 files are read.
 #![tactic(auto)]
 
-use file::Checked;
+use file::{Accepted, Limits};
+use refusal::Refusal;
 use std::io::{Stdin, Stdout};
+
+// The longest file that two bytes can ask for.
+const LONGEST: usize = 65535;
 
 fn main(rt: HostRuntime) {
     let mut stdin = rt.stdin();
     let mut stdout = rt.stdout();
-    let mut left: usize = 65536;
-    while 0 < left {
-        if check_next(&mut stdin, &mut stdout) {
-            left -= 1;
-        } else {
+    let mut input = [0u8; LONGEST];
+    for _ in 0..65536 {
+        let Some(file) = next_file(&mut stdin, &mut input) else {
             return;
-        }
+        };
+        check_file(&mut stdout, file);
     }
 }
 
-// Whether there was a next file, which is checked then.
-fn check_next(stdin: &mut Stdin, stdout: &mut Stdout) -> bool {
+// The next file, which is read into input; none where the input ends before.
+fn next_file<'a>(stdin: &mut Stdin, input: &'a mut [u8; LONGEST]) -> Option<&'a [u8]> {
     let mut length = [0u8; 2];
     if streams::read_full(stdin, &mut length) < 2 {
-        return false;
+        return None;
     }
-    let mut input = [0u8; 65535];
-    check_whole(stdin, stdout, &mut input, le::get16(&length, 0))
-}
-
-// The same, where the file has n bytes, which are read into input.
-fn check_whole(stdin: &mut Stdin, stdout: &mut Stdout, input: &mut [u8], n: usize) -> bool {
-    if input.len() < n {
-        return false;
+    let file = &mut input[..usize::from(u16::from_le_bytes(length))];
+    if streams::read_full(stdin, file) < file.len() {
+        return None;
     }
-    if streams::read_full(stdin, &mut input[..n]) < n {
-        return false;
-    }
-    check_file(stdout, &input[..n]);
-    true
+    Some(file)
 }
 
 fn check_file(stdout: &mut Stdout, src: &[u8]) {
-    print_answer(
-        stdout,
-        file::check(
-            src,
-            file::REDUCE_RECORDS,
-            file::REDUCE_DEPTH,
-            file::REDUCE_LOGICALS,
-        ),
-    );
+    print_answer(stdout, file::check(src, Limits::REDUCE));
     streams::write_all(stdout, b" ");
-    print_answer(
-        stdout,
-        file::check(
-            src,
-            file::LIST_EFFECTS_RECORDS,
-            file::LIST_EFFECTS_DEPTH,
-            file::LIST_EFFECTS_LOGICALS,
-        ),
-    );
+    print_answer(stdout, file::check(src, Limits::LIST_EFFECTS));
     streams::write_all(stdout, b"\n");
 }
 
-fn print_answer(stdout: &mut Stdout, answer: Checked) {
+fn print_answer(stdout: &mut Stdout, answer: Result<Accepted, Refusal>) {
     match answer {
-        Checked::Accepted { settings, count } => {
-            streams::print_decimal(stdout, settings as u64);
+        Ok(Accepted { settings, count }) => {
+            streams::print_decimal(stdout, u64::from(settings));
             streams::write_all(stdout, b"/");
             streams::print_decimal(stdout, count as u64);
         }
-        Checked::Refused(number) => {
-            streams::print_decimal(stdout, number as u64);
+        Err(refusal) => {
+            streams::print_decimal(stdout, u64::from(refusal.number()));
         }
     }
 }

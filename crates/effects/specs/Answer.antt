@@ -1,13 +1,13 @@
 -- What List effects answers: document 01's number and values for every case, and every lent entry.
-use Rattle.std.specs.Prelude.{◌≡◌, refl, Bool, cond, List, [], ◌∷◌, ◌++◌, ℕ, zero, suc, ◌*◌, ◌≤◌, ltb, length, get_or, drop}
+use Rattle.std.specs.Prelude.{◌≡◌, refl, Bool, cond, List, [], ◌∷◌, ◌++◌, ℕ, zero, suc, ◌*◌, ◌≤◌, ltb, length, get_or, drop, Result, Ok, Err}
 use Rattle.std.proofs.Common.{sym, ap, ◌∙◌, arith, length-append}
 use Rattle.stated.specs.Stated.{Stated, injective_by}
+use Rattle.refusal.specs.declared.Refusal.{Refusal}
+use Rattle.refusal.specs.Number.{number_of, refusal_of, refusal_back}
 use Rattle.tree.specs.Fields.{settings_of, count_of}
 use Rattle.tree.specs.Refusal.{list_effects_limits, refusal, tree_of}
 use Rattle.rules.specs.Effects.{effects}
-use Rattle.readings.specs.Node.{settings_given}
-use Rattle.effects.specs.declared.Listed.{Listed}
-use Rattle.effects.specs.declared.Listed.TheVariants.{Refused, Count}
+use Rattle.readings.specs.Given.{settings_given}
 
 pub data Case : Type 0 where
   refused count : Case
@@ -20,9 +20,9 @@ refused_by n = record { case = Case.refused; number = n; values = 0 ∷ [] }
 abbrev pub counts : ℕ → Stated Case
 counts n = record { case = Case.count; number = 0; values = n ∷ [] }
 
-abbrev pub stated : Listed → Stated Case
-stated (Refused n) = refused_by n
-stated (Count n) = counts n
+abbrev pub stated : Result ℕ Refusal → Stated Case
+stated (Ok n) = counts n
+stated (Err r) = refused_by (number_of r)
 
 -- "1–8 likewise, but count to 3,999 and depth to 65; 10 under 2 × N entries lent"
 abbrev pub number_by : ℕ → Bool → ℕ
@@ -49,32 +49,32 @@ abbrev pub entries_of : ℕ → List ℕ → List ℕ → List ℕ
 entries_of zero l old = l ++ drop (length l) old
 entries_of (suc k) l old = old
 
-pub record AnswersGiven (places s old new : List ℕ) (r : Listed) : Type 0 where
+pub record AnswersGiven (places s old new : List ℕ) (r : Result ℕ Refusal) : Type 0 where
   pub answer : stated r ≡ stated_of (number s (length old)) (effect_list_given places s)
   pub entries : new ≡ entries_of (number s (length old)) (effect_list_given places s) old
 
 -- Without such places it is the instance of the empty list.
-abbrev pub Answers : List ℕ → List ℕ → List ℕ → Listed → Type 0
+abbrev pub Answers : List ℕ → List ℕ → List ℕ → Result ℕ Refusal → Type 0
 Answers s old new r = AnswersGiven [] s old new r
 
 -- An answer is determined by what it states, since it can be read back.
-listed_of : Stated Case → Listed
+listed_of : Stated Case → Result ℕ Refusal
 listed_of s = from s.case s.number s.values
   where
-    from : Case → ℕ → List ℕ → Listed
-    from Case.refused n vs = Refused n
-    from Case.count n vs = Count (get_or vs 0 0)
+    from : Case → ℕ → List ℕ → Result ℕ Refusal
+    from Case.refused n vs = Err (refusal_of n)
+    from Case.count n vs = Ok (get_or vs 0 0)
 
-pub stated_injective : (a b : Listed) → stated a ≡ stated b → a ≡ b
+pub stated_injective : (a b : Result ℕ Refusal) → stated a ≡ stated b → a ≡ b
 unfolding listed_of
 stated_injective = injective_by stated listed_of read
   where
-    read : (a : Listed) → listed_of (stated a) ≡ a
-    read (Refused n) = refl
-    read (Count n) = refl
+    read : (a : Result ℕ Refusal) → listed_of (stated a) ≡ a
+    read (Ok n) = refl
+    read (Err r) = ap Err (refusal_back r)
 
 -- The effects that are counted stand in the entries.
-pub count_within_lem : {places s old new : List ℕ} {r : Listed} {n : ℕ} → AnswersGiven places s old new r → r ≡ Count n → n ≤ length new
+pub count_within_lem : {places s old new : List ℕ} {r : Result ℕ Refusal} {n : ℕ} → AnswersGiven places s old new r → r ≡ Ok n → n ≤ length new
 count_within_lem {places} {s} {old} {new} {r} {n} a is_count = rw a.entries (go (number s (length old)) (effect_list_given places s) (ap stated (sym is_count) ∙ a.answer))
   where
     go : (k : ℕ) (l : List ℕ) → counts n ≡ stated_of k l → n ≤ length (entries_of k l old)

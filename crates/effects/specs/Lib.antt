@@ -1,13 +1,9 @@
 pub mod Listing
+pub mod Walking
+pub mod Taken
+pub mod Sum
 pub mod Entry
 pub mod Plan
 pub mod Passed
-pub mod Given
-pub mod Children
-pub mod Child
-pub mod Expression
-pub mod Arm
-pub mod Sum
-pub mod Class
 pub mod Answer
 pub mod Run

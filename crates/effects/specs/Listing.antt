@@ -1,65 +1,91 @@
--- What the functions of the listing are given and what they write.
-use Rattle.std.specs.Prelude.{◌≡◌, Bool, List, ◌++◌, ℕ, ◌+◌, ◌<◌, length}
-use Rattle.std.proofs.Common.{append-nil}
-use Rattle.tree.specs.Tree.{Forest, Tree, trees, one}
-use Rattle.tree.specs.Fields.{head_at}
-use Rattle.tree.specs.Symbol.{is_string}
-use Rattle.stated.specs.Wrote.{Wrote, wrote_as}
-use Rattle.rules.specs.Lists.{concat_map}
+-- What the functions of the listing are given and what they list.
+use Rattle.std.specs.Prelude.{◌≡◌, refl, Bool, true, cond, ◌&&◌, List, [], ◌∷◌, ◌++◌, ℕ, ◌+◌, ◌-◌, ◌<◌, ◌≤◌, length, Option, None, Some, unwrap_or}
+use Rattle.std.proofs.Common.{sym, ap, arith, length-append}
+use Rattle.std.proofs.lemmas.Option.{none-some}
+use Rattle.tree.specs.Tree.{Forest, nil, node, Tree, All, one, trees, count, levels}
+use Rattle.tree.specs.Tree as tree
+use Rattle.tree.specs.Below.{and_both, and_left, and_right}
+use Rattle.tree.specs.Children.{node_ok, formed}
+use Rattle.tree.specs.Stands.{two_sides}
+use Rattle.tree.specs.Symbol.{is_addition, Sides}
 use Rattle.rules.specs.Settings.{Settings}
-use Rattle.rules.specs.Facts.{possible_symbol}
-use Rattle.rules.specs.Effects.{evaluate, effects, coercion}
-use Rattle.readings.specs.Symbol.{possible_symbol_if, possible_told}
-use Rattle.readings.specs.Input.{Input}
+use Rattle.rules.specs.Conditional.{test_of, consequent_of, alternate_of}
+use Rattle.rules.specs.Effects.{evaluate, effects, effects_of, coercion}
+use Rattle.readings.specs.Sides.{first_two}
+use Rattle.stated.specs.Wrote.{Wrote}
 use Rattle.effects.specs.declared.listing.Part.{Part}
 use Rattle.effects.specs.declared.listing.Part.TheVariants.{Coerced, Key, Static}
 
--- What of a tree is listed: the tree in order, or a part.
-pub data Listing : Type 0 where
-  InOrder : Listing
-  of : Part → Listing
+-- A well-formed tree of `depth` levels at most.
+pub record Listable (depth : ℕ) (t : Tree) : Type 0 where
+  pub ok : formed (one t) ≡ true
+  pub low : tree.depth t ≤ depth
 
--- A template's child, followed by its coercion; of a class element the computed key, or the static value or block.
-abbrev pub listed_as : Settings → Listing → Tree → List ℕ
-listed_as s InOrder t = effects s t
-listed_as s (of Coerced) t = effects s t ++ coercion t
-listed_as s (of Key) t = (evaluate s t).key
-listed_as s (of Static) t = (evaluate s t).static
+-- What a part of a tree lists: a template's child, followed by its coercion; of a class element the computed key, or the static value
+-- or block.
+abbrev pub part_of : Part → Settings → Tree → List ℕ
+part_of Coerced s t = effects s t ++ coercion t
+part_of Key s t = (evaluate s t).key
+part_of Static s t = (evaluate s t).static
 
-abbrev pub all_listed_as : Settings → Listing → Forest → List ℕ
-all_listed_as s part f = concat_map (listed_as s part) (trees f)
+-- Of the children of a conditional: the test, and then the arm that runs.
+abbrev pub tested : Bool → Settings → List Tree → List ℕ
+tested when s ts = effects_of s (test_of ts) ++ effects_of s (cond when (consequent_of ts) (alternate_of ts))
 
--- Trees stand there, and what is listed of them ends before entry `room`: a list of effects is never as long as the entries lent for it.
-pub record GivenChildren (s : List ℕ) (at size depth : ℕ) (st : Settings) (part : Listing) (pos room : ℕ) : Type 0 where
-  pub forest : Forest
-  pub input : Input s at size depth forest
-  pub fits : pos + length (all_listed_as st part forest) < room
+-- What is so of a tree's children, of the trees of a list, and of an addition's sides.
+all_listable : (depth : ℕ) (f : Forest) → formed f ≡ true → levels f ≤ depth → All (Listable depth) (trees f)
+unfolding formed
+all_listable depth nil w l = tt
+all_listable depth (node h cs rest) w l =
+    let a = and_right (node_ok h cs) (formed cs && formed rest) w in (
+      record { ok = and_both (and_left (node_ok h cs) (formed cs && formed rest) w) (and_both (and_left (formed cs) (formed rest) a) refl); low = omega (arith, l) },
+      all_listable depth rest (and_right (formed cs) (formed rest) a) (omega (arith, l)),
+    )
 
-pub record ListedChildren (s : List ℕ) (at size depth : ℕ) (st : Settings) (part : Listing) (old new : List ℕ) (pos next : ℕ) : Type 0 where
-  pub by : (f : Forest) → Input s at size depth f → Wrote old new pos next (all_listed_as st part f)
+module _ {depth : ℕ} {t : Tree} (l : Listable depth t) where
+  pub some_level : 1 ≤ depth
+  some_level = omega (arith, l.low)
 
--- The same of one tree.
-pub record GivenTree (s : List ℕ) (at size depth : ℕ) (st : Settings) (part : Listing) (pos room : ℕ) : Type 0 where
-  pub tree : Tree
-  pub input : Input s at size depth (one tree)
-  pub fits : pos + length (listed_as st part tree) < room
+  under : formed t.kids ≡ true
+  unfolding formed
+  under = and_left (formed t.kids) true (and_right (node_ok t.head t.kids) (formed t.kids && true) l.ok)
 
-pub record ListedTree (s : List ℕ) (at size depth : ℕ) (st : Settings) (part : Listing) (old new : List ℕ) (pos next : ℕ) : Type 0 where
-  pub by : (t : Tree) → Input s at size depth (one t) → Wrote old new pos next (listed_as st part t)
+  pub node_ok_of : node_ok t.head t.kids ≡ true
+  unfolding formed
+  node_ok_of = and_left (node_ok t.head t.kids) (formed t.kids && true) l.ok
 
--- Whether the tree is a string is told beside what was listed, so that a chain of additions is gone through once.
-pub record ListedSide (s : List ℕ) (at size depth : ℕ) (st : Settings) (old new : List ℕ) (pos next : ℕ) (string : Bool) : Type 0 where
-  pub listed : ListedTree s at size depth st InOrder old new pos next
-  pub is : (t : Tree) → Input s at size depth (one t) → string ≡ is_string t
+  pub listable_kids : All (Listable (depth - 1)) (trees t.kids)
+  listable_kids = all_listable (depth - 1) t.kids under (omega (arith, l.low))
 
-pub side_symbol : {s : List ℕ} {at size depth : ℕ} {st : Settings} {old new : List ℕ} {pos next : ℕ} {string when : Bool} → ListedSide s at size depth st old new pos next string
-    → when ≡ possible_symbol_if string (head_at s at) → (t : Tree) → Input s at size depth (one t) → when ≡ possible_symbol t
-side_symbol a e t i = possible_told t i.holds.stands.0 (a.is t i) e
+  pub listable_under : All (Listable depth) (trees t.kids)
+  listable_under = all_listable depth t.kids under (omega (arith, l.low))
 
--- A tree as a list of one.
-module _ {s : List ℕ} {at size depth : ℕ} {st : Settings} {part : Listing} {pos : ℕ} where
-  pub given_one : {room : ℕ} → GivenTree s at size depth st part pos room → GivenChildren s at size depth st part pos room
-  given_one g = record { forest = one g.tree; input = g.input; fits = rw append-nil g.fits }
+  -- An addition has two children, its sides.
+  module _ (a : is_addition t ≡ true) where
+    two : count t.kids ≡ 2
+    unfolding is_addition
+    two = two_sides t.head t.kids a node_ok_of
 
-  pub listed_one : {old new : List ℕ} {next : ℕ} → ListedChildren s at size depth st part old new pos next → ListedTree s at size depth st part old new pos next
-  listed_one a = record { by = λ t i. wrote_as (a.by (one t) i) (append-nil (listed_as st part t)) }
+    pub has_two : None ≡ first_two (trees t.kids) → ⊥
+    has_two = go t.kids two
+      where
+        go : (f : Forest) → count f ≡ 2 → None ≡ first_two (trees f) → ⊥
+        go nil c e = omega (arith, c)
+        go (node h cs nil) c e = omega (arith, c)
+        go (node h cs (node g xs rest)) c e = none-some _ e
+
+    pub sides_are : (l r : Tree) → Some (l, r) ≡ first_two (trees t.kids) → Sides t l r
+    sides_are l r e = record { addition = a; kids = go t.kids two e }
+      where
+        go : (f : Forest) → count f ≡ 2 → Some (l, r) ≡ first_two (trees f) → trees f ≡ l ∷ r ∷ []
+        go nil c e = absurd (omega (arith, c))
+        go (node h cs nil) c e = absurd (omega (arith, c))
+        go (node h cs (node g xs nil)) c e = sym (ap (λ (o : Option (Tree × Tree)). (unwrap_or o (l, r)).0 ∷ (unwrap_or o (l, r)).1 ∷ []) e)
+        go (node h cs (node g xs (node k ys rest))) c e = absurd (omega (arith, c))
+
+-- What is listed in parts is written where each ends, and there is room for each.
+pub room_first : (a b : List ℕ) (pos room : ℕ) → pos + length (a ++ b) < room → pos + length a < room
+room_first a b pos room f = omega (arith, f, length-append a b)
+
+pub room_after : {old mid : List ℕ} {pos next : ℕ} {a : List ℕ} (b : List ℕ) (room : ℕ) → Wrote old mid pos next a → pos + length (a ++ b) < room → next + length b < room
+room_after {a = a} b room w f = omega (arith, f, w.ends, length-append a b)

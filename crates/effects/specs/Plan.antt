@@ -1,27 +1,23 @@
--- What a plan says of a node's effect list, and which plan a node has by its kind.
-use Rattle.std.specs.Prelude.{◌≡◌, Bool, false, cond, List, [], ◌∷◌, ◌++◌, map, ℕ, ◌/◌, ◌%◌, ◌≤◌, drop}
-use Rattle.std.proofs.Math.Path.{refl, sym, ap₂}
-use Rattle.std.proofs.Common.{ap, ◌∙◌, append-nil, arith, take-append-drop}
-use Rattle.std.proofs.Math.Bool.{true}
-use Rattle.std.proofs.Math.Dec.{eqb, leb}
-use borrow.Author.Tests.{ne_eqb, eqb-true, leb-true}
-use Rattle.tree.specs.Tree.{Tree, trees, count, of_two}
-use Rattle.tree.specs.Heads.{bare}
-use Rattle.tree.specs.Children.{child_count_ok, node_ok}
-use Rattle.tree.specs.Stands.{node_parts}
+-- What the effect list of a node is made of.
+use Rattle.std.specs.Prelude.{◌≡◌, refl, Bool, true, false, cond, ◌||◌, List, [], ◌∷◌, ◌++◌, map, ℕ, eqb, drop}
+use Rattle.std.proofs.Common.{sym, ap, ap₂, ◌∙◌, true≢false, append-nil, take-append-drop}
+use Rattle.std.proofs.Math.Bool.{or-true}
+use Rattle.tree.specs.Tree.{Head, Tree, trees, of_two}
+use Rattle.tree.specs.Below.{and_both}
+use Rattle.tree.specs.Kind as kind
+use Rattle.tree.specs.Symbol.{is_addition}
 use Rattle.rules.specs.Lists.{concat_map}
-use Rattle.rules.specs.Settings.{Settings, derived}
-use Rattle.rules.specs.Handler.{Handler, handler}
+use Rattle.rules.specs.Settings.{Settings}
+use Rattle.rules.specs.Handler.{Handler, handler, unary_handler, binary_handler, logical_handler}
 use Rattle.rules.specs.Facts.{flagged, of_identifier, pure_new, pure_call, test_is_yes}
 use Rattle.rules.specs.Conditional.{test_of, arms_of, consequent_of, alternate_of}
 use Rattle.rules.specs.Class.{heritage, elements}
-use Rattle.rules.specs.Effects.{Evaluated, evaluate, effects, effects_of, effects_by, itself_if, coercion, addition_effect, children_in_order, class_is_effect}
+use Rattle.rules.specs.Effects.{evaluate, effects, effects_of, effects_by, itself_if, coercion, addition_effect, children_in_order, class_is_effect}
 use Rattle.rules.proofs.Lists.{by_cond, take_map, drop_map, concat_map_map}
 use Rattle.rules.specs.Results.{evaluated}
 use Rattle.rules.proofs.Unfold.{in_order_is}
 use Rattle.rules.proofs.Effects.{own, effects_of_append, coerced_is}
-use Rattle.readings.specs.Node.{Node, settings_given}
-use Rattle.tree.specs.Kind as kind
+use Rattle.effects.specs.Listing.{tested}
 use Rattle.effects.specs.declared.plan.Plan.{Plan}
 use Rattle.effects.specs.declared.plan.Plan.TheVariants.{Nothing, Children, Coerced, Arguments, Test, Arm, Addition, Class}
 
@@ -32,37 +28,128 @@ planned (Children when) s t = effects_of s (trees t.kids) ++ itself_if when t
 planned Coerced s t = concat_map (λ c. effects s c ++ coercion c) (trees t.kids)
 planned Arguments s t = effects_of s (drop 1 (trees t.kids))
 planned Test s t = effects_of s (test_of (trees t.kids))
-planned (Arm when) s t = effects_of s (test_of (trees t.kids)) ++ effects_of s (cond when (consequent_of (trees t.kids)) (alternate_of (trees t.kids)))
+planned (Arm when) s t = tested when s (trees t.kids)
 planned Addition s t = effects_of s (trees t.kids) ++ of_two (addition_effect t) (itself_if (flagged t) t) (trees t.kids)
 planned Class s t =
     effects_of s (heritage t)
     ++ (itself_if (class_is_effect t) t
     ++ (concat_map (λ e. (evaluate s e).key) (elements t) ++ concat_map (λ e. (evaluate s e).static) (elements t)))
 
--- What a plan counts on of the node.
-abbrev pub HasChildren : Plan → Tree → Type 0
-HasChildren Nothing t = Unit {0}
-HasChildren (Children when) t = Unit {0}
-HasChildren Coerced t = Unit {0}
-HasChildren Arguments t = 1 ≤ count t.kids
-HasChildren Test t = 1 ≤ count t.kids
-HasChildren (Arm when) t = count t.kids ≡ 3
-HasChildren Addition t = (t.head.kind ≡ kind.binary) × (t.head.sub ≡ 2)
-HasChildren Class t = t.head.kind ≡ kind.class
+abbrev pub plan_by : Handler → Settings → Tree → Plan
+plan_by Handler.spread s t = Children (flagged t)
+plan_by Handler.template s t = Coerced
+plan_by Handler.typeof s t = cond (of_identifier t) Nothing (Children false)
+plan_by Handler.other_unary s t = Children (flagged t)
+plan_by Handler.addition s t = Addition
+plan_by Handler.other_binary s t = Children (flagged t)
+plan_by Handler.call s t = cond (pure_call s t) Arguments (Children (flagged t))
+plan_by Handler.new s t = cond (pure_new s t) Arguments (Children (flagged t))
+plan_by Handler.class s t = Class
+plan_by Handler.logical_and s t = cond (test_is_yes s t) (Children false) Test
+plan_by Handler.logical_or s t = cond (test_is_yes s t) Test (Children false)
+plan_by Handler.conditional s t = Arm (test_is_yes s t)
+plan_by _ s t = Children false
 
-pub record Planned (s : Settings) (t : Tree) (p : Plan) : Type 0 where
-  pub is : effects s t ≡ planned p s t
-  pub has : HasChildren p t
+-- The plan of a node that is not passed.
+unfoldable pub plan : Settings → Tree → Plan
+plan s t = plan_by (handler t.head) s t
 
-pub record Plans (b : List ℕ) (i : ℕ) (s : Settings) (p : Plan) : Type 0 where
-  pub by : (t : Tree) → Node b i t → node_ok t.head t.kids ≡ true → Planned s t p
+abbrev pub is_passed : ℕ → Bool
+is_passed k =
+    kind.is_leaf k
+    || (eqb k kind.this || (eqb k kind.elision || (eqb k kind.array || (eqb k kind.object || (eqb k kind.property || eqb k kind.sequence)))))
 
--- The same of a node of one kind, whatever the settings; and of a logical, whatever their byte.
-pub record PlansOf (k : ℕ) (b : List ℕ) (i : ℕ) (p : Plan) : Type 0 where
-  pub by : (s : Settings) (t : Tree) → Node b i t → node_ok t.head t.kids ≡ true → t.head.kind ≡ k → Planned s t p
+-- The handlers whose nodes may have another effect list than their plan's; each is passed.
+abbrev childless : Handler → Bool
+childless Handler.leaf = true
+childless Handler.this = true
+childless Handler.elision = true
+childless _ = false
 
-pub record PlansLogical (b : List ℕ) (i : ℕ) (places : List ℕ) (p : Plan) : Type 0 where
-  pub by : (byte : ℕ) (t : Tree) → Node b i t → node_ok t.head t.kids ≡ true → t.head.kind ≡ kind.logical → Planned (settings_given places byte) t p
+-- What holds of each handler that a kind may have holds of a node's.
+by_kind : (P : Handler → Type 0) (h : Head) → (kind.is_leaf h.kind ≡ true → P Handler.leaf) → (eqb h.kind kind.this ≡ true → P Handler.this) → P Handler.array
+    → (eqb h.kind kind.elision ≡ true → P Handler.elision) → P Handler.spread → P Handler.object → P Handler.property → P Handler.template → P Handler.sequence
+    → P (unary_handler h.sub) → (eqb h.kind kind.binary ≡ true → P (binary_handler h.sub)) → P Handler.call → P Handler.new → P Handler.class → P Handler.element
+    → P (logical_handler h.sub) → P Handler.conditional → P Handler.left_out → P (handler h)
+unfolding handler
+by_kind P h leaf this array elision spread object property template sequence unary binary call new class element logical conditional other =
+    by_cond P (kind.is_leaf h.kind) Handler.leaf _ leaf
+    (λ _. by_cond P (eqb h.kind kind.this) Handler.this _ this
+    (λ _. by_cond P (eqb h.kind kind.array) Handler.array _ (λ _. array)
+    (λ _. by_cond P (eqb h.kind kind.elision) Handler.elision _ elision
+    (λ _. by_cond P (eqb h.kind kind.spread) Handler.spread _ (λ _. spread)
+    (λ _. by_cond P (eqb h.kind kind.object) Handler.object _ (λ _. object)
+    (λ _. by_cond P (eqb h.kind kind.property) Handler.property _ (λ _. property)
+    (λ _. by_cond P (eqb h.kind kind.template) Handler.template _ (λ _. template)
+    (λ _. by_cond P (eqb h.kind kind.sequence) Handler.sequence _ (λ _. sequence)
+    (λ _. by_cond P (eqb h.kind kind.unary) (unary_handler h.sub) _ (λ _. unary)
+    (λ _. by_cond P (eqb h.kind kind.binary) (binary_handler h.sub) _ binary
+    (λ _. by_cond P (eqb h.kind kind.call) Handler.call _ (λ _. call)
+    (λ _. by_cond P (eqb h.kind kind.new) Handler.new _ (λ _. new)
+    (λ _. by_cond P (eqb h.kind kind.class) Handler.class _ (λ _. class)
+    (λ _. by_cond P (eqb h.kind kind.element) Handler.element _ (λ _. element)
+    (λ _. by_cond P (eqb h.kind kind.logical) (logical_handler h.sub) _ (λ _. logical)
+    (λ _. by_cond P (eqb h.kind kind.conditional) Handler.conditional _ (λ _. conditional) (λ _. other)))))))))))))))))
+
+not_childless : (h : Head) → is_passed h.kind ≡ false → childless (handler h) ≡ false
+not_childless h e =
+    by_kind (λ x. childless x ≡ false) h (λ a. absurd (true≢false (rw a at e))) (λ a. absurd (true≢false (rw (a, or-true (kind.is_leaf h.kind)) at e))) refl
+    (λ a. absurd (true≢false (rw (a, or-true (eqb h.kind kind.this), or-true (kind.is_leaf h.kind)) at e))) refl refl refl refl refl
+    (unary_runs (eqb h.sub 1) (eqb h.sub 2) (eqb h.sub 3))
+    (λ _. binary_runs (eqb h.sub 1) (eqb h.sub 2)) refl refl refl refl
+    (logical_runs (eqb h.sub 1)) refl refl
+  where
+    unary_runs : (one two three : Bool) → childless (cond (one || two) Handler.void_or_not (cond three Handler.typeof Handler.other_unary)) ≡ false
+    unary_runs true two three = refl
+    unary_runs false true three = refl
+    unary_runs false false true = refl
+    unary_runs false false false = refl
+
+    binary_runs : (one two : Bool) → childless (cond one Handler.comparison (cond two Handler.addition Handler.other_binary)) ≡ false
+    binary_runs true two = refl
+    binary_runs false true = refl
+    binary_runs false false = refl
+
+    logical_runs : (one : Bool) → childless (cond one Handler.logical_and Handler.logical_or) ≡ false
+    logical_runs true = refl
+    logical_runs false = refl
+
+-- An addition by its plan is one.
+abbrev adds : Plan → Bool
+adds Addition = true
+adds _ = false
+
+pub plan_addition : (s : Settings) (t : Tree) → plan s t ≡ Addition → is_addition t ≡ true
+unfolding plan is_addition
+plan_addition s t e =
+    by_kind (λ x. adds (plan_by x s t) ≡ true → is_addition t ≡ true) t.head (λ _ x. no x) (λ _ x. no x) no (λ _ x. no x) no no no no no
+    (by_cond Q (eqb t.head.sub 1 || eqb t.head.sub 2) Handler.void_or_not _ (λ _. no) (λ _. by_cond Q (eqb t.head.sub 3) Handler.typeof Handler.other_unary (λ _. either (of_identifier t)) (λ _. no)))
+    (λ k. by_cond Q (eqb t.head.sub 1) Handler.comparison _ (λ _. no) (λ _. by_cond Q (eqb t.head.sub 2) Handler.addition Handler.other_binary (λ u _. and_both k u) (λ _. no)))
+    (called_no (pure_call s t)) (called_no (pure_new s t)) no no
+    (by_cond Q (eqb t.head.sub 1) Handler.logical_and Handler.logical_or (λ _. yes_no (test_is_yes s t)) (λ _. no_yes (test_is_yes s t))) no no
+    (ap adds e)
+  where
+    Q : Handler → Type 0
+    Q x = adds (plan_by x s t) ≡ true → is_addition t ≡ true
+
+    no : false ≡ true → is_addition t ≡ true
+    no x = absurd (true≢false (sym x))
+
+    either : (b : Bool) → adds (cond b Nothing (Children false)) ≡ true → is_addition t ≡ true
+    either true x = no x
+    either false x = no x
+
+    called_no : (b : Bool) → adds (cond b Arguments (Children (flagged t))) ≡ true → is_addition t ≡ true
+    called_no true x = no x
+    called_no false x = no x
+
+    yes_no : (b : Bool) → adds (cond b (Children false) Test) ≡ true → is_addition t ≡ true
+    yes_no true x = no x
+    yes_no false x = no x
+
+    no_yes : (b : Bool) → adds (cond b Test (Children false)) ≡ true → is_addition t ≡ true
+    no_yes true x = no x
+    no_yes false x = no x
 
 two_evaluated : (s : Settings) (f : Tree → Tree → List ℕ) (other : List ℕ) (xs : List Tree)
     → of_two (λ l r. f l.tree r.tree) other (map (evaluated s) xs) ≡ of_two f other xs
@@ -71,45 +158,13 @@ two_evaluated s f other (x ∷ []) = refl
 two_evaluated s f other (x ∷ y ∷ []) = refl
 two_evaluated s f other (x ∷ y ∷ z ∷ zs) = refl
 
--- Kinds of which only the children are listed.
-abbrev others : ℕ → Handler
-others k =
-    cond (eqb k kind.array) Handler.array
-    (cond (eqb k kind.object) Handler.object
-    (cond (eqb k kind.property) Handler.property
-    (cond (eqb k kind.sequence) Handler.sequence (cond (eqb k kind.element) Handler.element Handler.left_out))))
-
-others_in_order : (s : Settings) (t : Tree) (cs : List Evaluated) (k : ℕ) → effects_by (others k) s t cs ≡ children_in_order cs
-others_in_order s t cs k =
-    by_cond P (eqb k kind.array) Handler.array (cond (eqb k kind.object) Handler.object (cond (eqb k kind.property) Handler.property (cond (eqb k kind.sequence) Handler.sequence (cond (eqb k kind.element) Handler.element Handler.left_out)))) (λ _. refl)
-    (λ _. by_cond P (eqb k kind.object) Handler.object (cond (eqb k kind.property) Handler.property (cond (eqb k kind.sequence) Handler.sequence (cond (eqb k kind.element) Handler.element Handler.left_out))) (λ _. refl)
-    (λ _. by_cond P (eqb k kind.property) Handler.property (cond (eqb k kind.sequence) Handler.sequence (cond (eqb k kind.element) Handler.element Handler.left_out)) (λ _. refl)
-    (λ _. by_cond P (eqb k kind.sequence) Handler.sequence (cond (eqb k kind.element) Handler.element Handler.left_out) (λ _. refl)
-    (λ _. by_cond P (eqb k kind.element) Handler.element Handler.left_out (λ _. refl) (λ _. refl)))))
-  where
-    P : Handler → Type 0
-    P h = effects_by h s t cs ≡ children_in_order cs
-
 module _ (s : Settings) (t : Tree) where
   abbrev ts : List Tree
   ts = trees t.kids
 
-  -- Handlers whose effects are the children in order, and then themselves if flagged.
-  after_children : (k : Handler) → handler t.head ≡ k
-      → effects_by k s t (map (evaluated s) ts) ≡ children_in_order (map (evaluated s) ts) ++ itself_if (flagged t) t
-      → {b : Bool} → b ≡ flagged t → Planned s t (Children b)
-  after_children k e f x = record { is = own s t k e ∙ f ∙ ap₂ (λ (l : List ℕ) (y : Bool). l ++ itself_if y t) (in_order_is s ts) (sym x); has = tt }
-
-  only_children : (k : Handler) → handler t.head ≡ k → effects_by k s t (map (evaluated s) ts) ≡ children_in_order (map (evaluated s) ts) → effects s t ≡ effects_of s ts
-  only_children k e f = own s t k e ∙ f ∙ in_order_is s ts
-
-  in_order_lem : (k : Handler) → handler t.head ≡ k → effects_by k s t (map (evaluated s) ts) ≡ children_in_order (map (evaluated s) ts) → Planned s t (Children false)
-  in_order_lem k e f = record { is = only_children k e f ∙ sym (append-nil (effects_of s ts)); has = tt }
-
   arguments_is : children_in_order (drop 1 (map (evaluated s) ts)) ≡ effects_of s (drop 1 ts)
   arguments_is = rw (drop_map (evaluated s)) (in_order_is s (drop 1 ts))
 
-  -- The test, and what follows it.
   test_is : children_in_order (test_of (map (evaluated s) ts)) ≡ effects_of s (test_of ts)
   test_is = rw (take_map (evaluated s)) (in_order_is s (test_of ts))
 
@@ -122,196 +177,70 @@ module _ (s : Settings) (t : Tree) where
   both_are : effects_of s (test_of ts) ++ effects_of s (arms_of ts) ≡ effects_of s ts
   both_are = sym (effects_of_append s (test_of ts) (arms_of ts)) ∙ ap (effects_of s) (take-append-drop 1 ts)
 
-  -- A class by the parts of its elements.
-  class_parts : effects_by Handler.class s t (map (evaluated s) ts) ≡ planned Class s t
-  class_parts =
+  in_order : children_in_order (map (evaluated s) ts) ≡ planned (Children false) s t
+  in_order = in_order_is s ts ∙ sym (append-nil (effects_of s ts))
+
+  then_itself : children_in_order (map (evaluated s) ts) ++ itself_if (flagged t) t ≡ planned (Children (flagged t)) s t
+  then_itself = ap (◌++ itself_if (flagged t) t) (in_order_is s ts)
+
+  called : (pure : Bool)
+      → cond pure (children_in_order (drop 1 (map (evaluated s) ts))) (children_in_order (map (evaluated s) ts) ++ itself_if (flagged t) t)
+      ≡ planned (cond pure Arguments (Children (flagged t))) s t
+  called true = arguments_is
+  called false = then_itself
+
+  both_run : children_in_order (test_of (map (evaluated s) ts)) ++ children_in_order (arms_of (map (evaluated s) ts)) ≡ planned (Children false) s t
+  both_run = ap₂ (◌++◌) test_is arguments_is ∙ both_are ∙ sym (append-nil (effects_of s ts))
+
+  test_runs : children_in_order (test_of (map (evaluated s) ts)) ++ [] ≡ planned Test s t
+  test_runs = append-nil (children_in_order (test_of (map (evaluated s) ts))) ∙ test_is
+
+  by_handler : (h : Handler) → childless h ≡ false → effects_by h s t (map (evaluated s) ts) ≡ planned (plan_by h s t) s t
+  by_handler Handler.leaf e = absurd (true≢false e)
+  by_handler Handler.this e = absurd (true≢false e)
+  by_handler Handler.elision e = absurd (true≢false e)
+  by_handler Handler.void_or_not e = in_order
+  by_handler Handler.typeof e = go (of_identifier t)
+    where
+      go : (b : Bool) → cond b [] (children_in_order (map (evaluated s) ts)) ≡ planned (cond b Nothing (Children false)) s t
+      go true = refl
+      go false = in_order
+  by_handler Handler.other_unary e = then_itself
+  by_handler Handler.sequence e = in_order
+  by_handler Handler.array e = in_order
+  by_handler Handler.template e = coerced_is s ts
+  by_handler Handler.object e = in_order
+  by_handler Handler.comparison e = in_order
+  by_handler Handler.addition e = ap₂ (◌++◌) (in_order_is s ts) (two_evaluated s (addition_effect t) (itself_if (flagged t) t) ts)
+  by_handler Handler.other_binary e = then_itself
+  by_handler Handler.call e = called (pure_call s t)
+  by_handler Handler.new e = called (pure_new s t)
+  by_handler Handler.class e =
       rw (take_map (evaluated s), drop_map (evaluated s), in_order_is s (heritage t))
       (ap (λ (l : List ℕ). effects_of s (heritage t) ++ (itself_if (class_is_effect t) t ++ l))
       (ap₂ (◌++◌) (concat_map_map (λ e. e.result.key) (evaluated s) (elements t)) (concat_map_map (λ e. e.result.static) (evaluated s) (elements t))))
+  by_handler Handler.conditional e = ap₂ (◌++◌) test_is (arm_is (test_is_yes s t))
+  by_handler Handler.logical_and e = go (test_is_yes s t)
+    where
+      go : (b : Bool) → children_in_order (test_of (map (evaluated s) ts)) ++ cond b (children_in_order (arms_of (map (evaluated s) ts))) []
+          ≡ planned (cond b (Children false) Test) s t
+      go true = both_run
+      go false = test_runs
+  by_handler Handler.logical_or e = go (test_is_yes s t)
+    where
+      go : (b : Bool) → children_in_order (test_of (map (evaluated s) ts)) ++ cond b [] (children_in_order (arms_of (map (evaluated s) ts)))
+          ≡ planned (cond b Test (Children false)) s t
+      go true = test_runs
+      go false = both_run
+  by_handler Handler.spread e = then_itself
+  by_handler Handler.property e = in_order
+  by_handler Handler.element e = in_order
+  by_handler Handler.left_out e = in_order
 
-  module _ (k : ℕ) (ek : k ≡ t.head.kind) where
-    -- Leaves.
-    pub leaf_is : kind.is_leaf k ≡ true → effects s t ≡ itself_if (flagged t) t
-    unfolding handler
-    leaf_is l = own s t Handler.leaf (rw (← ek, l))
-
-    pub this_is : k ≡ kind.this → effects s t ≡ itself_if (derived s) t
-    unfolding handler
-    this_is e = own s t Handler.this (rw (sym ek ∙ e))
-
-    pub elision_is : k ≡ kind.elision → effects s t ≡ []
-    unfolding handler
-    elision_is e = own s t Handler.elision (rw (sym ek ∙ e))
-
-    pub array_is : k ≡ kind.array → effects s t ≡ effects_of s ts
-    unfolding handler
-    array_is e = only_children Handler.array (rw (sym ek ∙ e)) refl
-
-    pub object_is : k ≡ kind.object → effects s t ≡ effects_of s ts
-    unfolding handler
-    object_is e = only_children Handler.object (rw (sym ek ∙ e)) refl
-
-    pub property_is : k ≡ kind.property → effects s t ≡ effects_of s ts
-    unfolding handler
-    property_is e = only_children Handler.property (rw (sym ek ∙ e)) refl
-
-    pub sequence_is : k ≡ kind.sequence → effects s t ≡ effects_of s ts
-    unfolding handler
-    sequence_is e = only_children Handler.sequence (rw (sym ek ∙ e)) refl
-
-    pub plan_spread : k ≡ kind.spread → {b : Bool} → b ≡ flagged t → Planned s t (Children b)
-    unfolding handler
-    plan_spread e = after_children Handler.spread (rw (sym ek ∙ e)) refl
-
-    pub plan_template : k ≡ kind.template → Planned s t Coerced
-    unfolding handler
-    plan_template e = record { is = own s t Handler.template (rw (sym ek ∙ e)) ∙ coerced_is s ts; has = tt }
-
-    -- Unary, by its sub u.
-    module _ (e : k ≡ kind.unary) (u : ℕ) (eu : u ≡ t.head.sub) where
-      unary_handled : (h : Handler) → handler (bare kind.unary u) ≡ h → handler t.head ≡ h
-      unfolding handler
-      unary_handled h x = rw (sym ek ∙ e, ← eu) x
-
-      pub plan_void : u ≡ 1 → Planned s t (Children false)
-      unfolding handler
-      plan_void x = in_order_lem Handler.void_or_not (unary_handled Handler.void_or_not (rw x)) refl
-
-      pub plan_not : u ≡ 2 → Planned s t (Children false)
-      unfolding handler
-      plan_not x = in_order_lem Handler.void_or_not (unary_handled Handler.void_or_not (rw x)) refl
-
-      pub plan_typeof_identifier : u ≡ 3 → of_identifier t ≡ true → Planned s t Nothing
-      unfolding handler
-      plan_typeof_identifier x o = record { is = own s t Handler.typeof (unary_handled Handler.typeof (rw x)) ∙ rw o; has = tt }
-
-      pub plan_typeof : u ≡ 3 → of_identifier t ≡ false → Planned s t (Children false)
-      unfolding handler
-      plan_typeof x o = in_order_lem Handler.typeof (unary_handled Handler.typeof (rw x)) (rw o)
-
-      pub plan_other_unary : (u ≡ 1 → ⊥) → (u ≡ 2 → ⊥) → (u ≡ 3 → ⊥) → {b : Bool} → b ≡ flagged t → Planned s t (Children b)
-      unfolding handler
-      plan_other_unary x y z = after_children Handler.other_unary (unary_handled Handler.other_unary (rw (ne_eqb u 1 x, ne_eqb u 2 y, ne_eqb u 3 z))) refl
-
-    -- Binary, by its sub u.
-    module _ (e : k ≡ kind.binary) (u : ℕ) (eu : u ≡ t.head.sub) where
-      binary_handled : (h : Handler) → handler (bare kind.binary u) ≡ h → handler t.head ≡ h
-      unfolding handler
-      binary_handled h x = rw (sym ek ∙ e, ← eu) x
-
-      pub plan_comparison : u ≡ 1 → Planned s t (Children false)
-      unfolding handler
-      plan_comparison x = in_order_lem Handler.comparison (binary_handled Handler.comparison (rw x)) refl
-
-      pub plan_addition : u ≡ 2 → Planned s t Addition
-      unfolding handler
-      plan_addition x =
-          let h = binary_handled Handler.addition (rw x) in
-          record { is = own s t Handler.addition h ∙ ap₂ (◌++◌) (in_order_is s ts) (two_evaluated s (addition_effect t) (itself_if (flagged t) t) ts); has = (sym ek ∙ e, sym eu ∙ x) }
-
-      pub plan_other_binary : (u ≡ 1 → ⊥) → (u ≡ 2 → ⊥) → {b : Bool} → b ≡ flagged t → Planned s t (Children b)
-      unfolding handler
-      plan_other_binary x y = after_children Handler.other_binary (binary_handled Handler.other_binary (rw (ne_eqb u 1 x, ne_eqb u 2 y))) refl
-
-    -- Calls and news.
-    pub plan_call : node_ok t.head t.kids ≡ true → k ≡ kind.call → pure_call s t ≡ true → Planned s t Arguments
-    unfolding handler child_count_ok
-    plan_call w e p =
-        let c : child_count_ok t.head (count t.kids) ≡ true = (node_parts t.head t.kids w).counted in
-        let d : leb 1 (count t.kids) ≡ true = rw (sym ek ∙ e) at c in
-        record { is = own s t Handler.call (rw (sym ek ∙ e)) ∙ rw p (arguments_is); has = leb-true 1 (count t.kids) d }
-
-    pub plan_impure_call : k ≡ kind.call → pure_call s t ≡ false → {b : Bool} → b ≡ flagged t → Planned s t (Children b)
-    unfolding handler
-    plan_impure_call e p = after_children Handler.call (rw (sym ek ∙ e)) (rw p)
-
-    pub plan_new : node_ok t.head t.kids ≡ true → k ≡ kind.new → pure_new s t ≡ true → Planned s t Arguments
-    unfolding handler child_count_ok
-    plan_new w e p =
-        let c : child_count_ok t.head (count t.kids) ≡ true = (node_parts t.head t.kids w).counted in
-        let d : leb 1 (count t.kids) ≡ true = rw (sym ek ∙ e) at c in
-        record { is = own s t Handler.new (rw (sym ek ∙ e)) ∙ rw p (arguments_is); has = leb-true 1 (count t.kids) d }
-
-    pub plan_impure_new : k ≡ kind.new → pure_new s t ≡ false → {b : Bool} → b ≡ flagged t → Planned s t (Children b)
-    unfolding handler
-    plan_impure_new e p = after_children Handler.new (rw (sym ek ∙ e)) (rw p)
-
-    pub plan_class : k ≡ kind.class → Planned s t Class
-    unfolding handler
-    plan_class e = record { is = own s t Handler.class (rw (sym ek ∙ e)) ∙ class_parts; has = sym ek ∙ e }
-
-    -- Logical nodes, by their sub u.
-    module _ (w : node_ok t.head t.kids ≡ true) (e : k ≡ kind.logical) (u : ℕ) (eu : u ≡ t.head.sub) where
-      logical_handled : (h : Handler) → handler (bare kind.logical u) ≡ h → handler t.head ≡ h
-      unfolding handler
-      logical_handled h x = rw (sym ek ∙ e, ← eu) x
-
-      some_child : 1 ≤ count t.kids
-      unfolding child_count_ok
-      some_child =
-          let c : child_count_ok t.head (count t.kids) ≡ true = (node_parts t.head t.kids w).counted in
-          let d : eqb (count t.kids) 2 ≡ true = rw (sym ek ∙ e) at c in
-          omega (arith, eqb-true (count t.kids) 2 d)
-
-      both_run : (h : Handler) → handler t.head ≡ h → effects_by h s t (map (evaluated s) ts) ≡ children_in_order (test_of (map (evaluated s) ts)) ++ children_in_order (arms_of (map (evaluated s) ts)) → Planned s t (Children false)
-      both_run h x y = record { is = own s t h x ∙ y ∙ ap₂ (◌++◌) test_is arguments_is ∙ both_are ∙ sym (append-nil (effects_of s ts)); has = tt }
-
-      test_runs : (h : Handler) → handler t.head ≡ h → effects_by h s t (map (evaluated s) ts) ≡ children_in_order (test_of (map (evaluated s) ts)) ++ [] → Planned s t Test
-      test_runs h x y = record { is = own s t h x ∙ y ∙ append-nil (children_in_order (test_of (map (evaluated s) ts))) ∙ test_is; has = some_child }
-
-      module _ (x : u ≡ 1) where
-        pub plan_and_yes : test_is_yes s t ≡ true → Planned s t (Children false)
-        unfolding handler
-        plan_and_yes y = both_run Handler.logical_and (logical_handled Handler.logical_and (rw x)) (rw y)
-
-        pub plan_and_no : test_is_yes s t ≡ false → Planned s t Test
-        unfolding handler
-        plan_and_no y = test_runs Handler.logical_and (logical_handled Handler.logical_and (rw x)) (rw y)
-
-      module _ (x : u ≡ 1 → ⊥) where
-        pub plan_or_yes : test_is_yes s t ≡ true → Planned s t Test
-        unfolding handler
-        plan_or_yes y = test_runs Handler.logical_or (logical_handled Handler.logical_or (rw (ne_eqb u 1 x))) (rw y)
-
-        pub plan_or_no : test_is_yes s t ≡ false → Planned s t (Children false)
-        unfolding handler
-        plan_or_no y = both_run Handler.logical_or (logical_handled Handler.logical_or (rw (ne_eqb u 1 x))) (rw y)
-
-    pub plan_conditional : node_ok t.head t.kids ≡ true → k ≡ kind.conditional → {b : Bool} → b ≡ test_is_yes s t → Planned s t (Arm b)
-    unfolding handler child_count_ok
-    plan_conditional w e {b} y =
-        let c : child_count_ok t.head (count t.kids) ≡ true = (node_parts t.head t.kids w).counted in
-        let d : eqb (count t.kids) 3 ≡ true = rw (sym ek ∙ e) at c in
-        record {
-          is = own s t Handler.conditional (rw (sym ek ∙ e)) ∙ ap₂ (◌++◌) test_is (rw (← y) (arm_is b));
-          has = eqb-true (count t.kids) 3 d;
-        }
-
-    -- What is neither passed nor told apart above.
-    pub plan_other : kind.is_leaf k ≡ false → (k ≡ kind.this → ⊥) → (k ≡ kind.elision → ⊥) → (k ≡ kind.spread → ⊥) → (k ≡ kind.template → ⊥)
-        → (k ≡ kind.unary → ⊥) → (k ≡ kind.binary → ⊥) → (k ≡ kind.call → ⊥) → (k ≡ kind.new → ⊥) → (k ≡ kind.class → ⊥)
-        → (k ≡ kind.logical → ⊥) → (k ≡ kind.conditional → ⊥) → Planned s t (Children false)
-    unfolding handler
-    plan_other l a b c d e f g h i m n =
-        let e' : handler t.head ≡ others k =
-        rw (
-          ← ek,
-          l,
-          ne_eqb k kind.this a,
-          ne_eqb k kind.elision b,
-          ne_eqb k kind.spread c,
-          ne_eqb k kind.template d,
-          ne_eqb k kind.unary e,
-          ne_eqb k kind.binary f,
-          ne_eqb k kind.call g,
-          ne_eqb k kind.new h,
-          ne_eqb k kind.class i,
-          ne_eqb k kind.logical m,
-          ne_eqb k kind.conditional n,
-        ) in
-        in_order_lem (others k) e' (others_in_order s t (map (evaluated s) ts) k)
-
--- The derived setting, as the code reads it: not by the places that count as yes.
-pub derived_is : (places : List ℕ) (n : ℕ) → eqb (n / 4 % 2) 1 ≡ derived (settings_given places n)
-unfolding derived
-derived_is places n = refl
+  -- The effect list by the plan p that was found, which is q.
+  pub planned_as : is_passed t.head.kind ≡ false → {p : Plan} → p ≡ plan s t → (q : Plan) → p ≡ q → effects s t ≡ planned q s t
+  unfolding plan
+  planned_as e x q y =
+      own s t (handler t.head) refl
+      ∙ by_handler (handler t.head) (not_childless t.head e)
+      ∙ ap (λ (p : Plan). planned p s t) (sym x ∙ y)

@@ -7,43 +7,37 @@ mod plan;
 
 ghost use Rattle.effects.specs.Answer.{AnswersGiven, Answers};
 
-use file::Checked;
+use file::{Accepted, Limits};
+use readings::{Settings, Trees};
+use refusal::Refusal;
 
-#[derive(Drop)]
-pub enum Listed {
-    // The number of the first refusal that applies; no entry has changed.
-    Refused(u8),
-    // How many effects there are: the first entries are the list, and no other entry has changed.
-    Count(usize),
-}
-
-// Lists the effects of the tree file src in entries, where the tests at the places of yes count as yes and all others as no.
-pub fn list_effects_given(src: &[u8], yes: &[u32], entries: &mut [u64]) -> Listed
+// Lists the effects of the tree file src in entries, where the tests at the places of yes count as yes and all others as no. The value is
+// how many there are: the first entries are the list, and no other entry has changed. An error is the first refusal that applies, and
+// no entry has changed then.
+pub fn list_effects_given(src: &[u8], yes: &[u32], entries: &mut [u64]) -> Result<usize, Refusal>
     ensures { AnswersGiven yes.now src.now entries.old entries.new result }
 {
-    let checked = file::check(
-        src,
-        file::LIST_EFFECTS_RECORDS,
-        file::LIST_EFFECTS_DEPTH,
-        file::LIST_EFFECTS_LOGICALS,
-    );
-    match checked {
-        Checked::Refused(number) => Listed::Refused(number),
-        Checked::Accepted { settings, count } => {
-            if entries.len() < 2 * count {
-                return Listed::Refused(10);
-            }
-            let depth = file::LIST_EFFECTS_DEPTH;
-            let next = listing::list_children(src, 0, count, depth, settings, yes, entries, 0);
-            Listed::Count(next)
-        }
+    let limits = Limits::LIST_EFFECTS;
+    let Accepted { settings, count } = file::check(src, limits)?;
+    if entries.len() < 2 * count {
+        return Err(Refusal::Entries);
     }
+    let settings = Settings {
+        byte: settings,
+        yes,
+    };
+    let root = Trees {
+        src,
+        at: 0,
+        end: count,
+    };
+    let next = listing::list_children(root, limits.depth, settings, entries, 0);
+    Ok(next)
 }
 
 // Lists the effects of the tree file src in entries; no place counts as yes.
-pub fn list_effects(src: &[u8], entries: &mut [u64]) -> Listed
+pub fn list_effects(src: &[u8], entries: &mut [u64]) -> Result<usize, Refusal>
     ensures { Answers src.now entries.old entries.new result }
 {
-    let none = [0u32; 0];
-    list_effects_given(src, &none, entries)
+    list_effects_given(src, &[], entries)
 }

@@ -1,14 +1,20 @@
 // The effect list of trees, written from an entry on: an expression lists its children, and a list of children each expression.
-// Remaining depth and remaining records fall at each call; siblings are walked by a loop, so that the stack is bounded by the depth.
-ghost use Rattle.std.specs.Prelude.{length};
-ghost use Rattle.readings.specs.Node.{settings_given};
-ghost use Rattle.effects.specs.Listing.{InOrder, of, GivenChildren, ListedChildren, GivenTree, ListedTree, ListedSide};
-ghost use Rattle.effects.specs.Expression.{GivenExpression, GivenPlanned};
-ghost use Rattle.effects.specs.Sum.{GivenSum};
-ghost use Rattle.effects.specs.Class.{GivenClass};
+// Remaining depth falls at each call that goes down; siblings are walked by a loop, so that the stack is bounded by the depth.
+ghost use Rattle.std.specs.Prelude.{◌≡◌, true, false, ◌+◌, ◌<◌, length, option_map, option_to_list};
+ghost use Rattle.stated.specs.Wrote.{Wrote};
+ghost use Rattle.tree.specs.Tree.{All};
+ghost use Rattle.tree.specs.Symbol.{is_addition, is_string};
+ghost use Rattle.rules.specs.Lists.{concat_map};
+ghost use Rattle.rules.specs.Effects.{effects, effects_of};
+ghost use Rattle.readings.specs.Given.{given};
+ghost use Rattle.readings.specs.View.{left, tree};
+ghost use Rattle.effects.specs.Listing.{Listable, part_of, tested};
+ghost use Rattle.effects.specs.Plan.{is_passed, planned};
 
+use crate::entry::Effect;
 use crate::plan::Plan;
 use crate::{entry, plan};
+use readings::{Node, Settings, Trees};
 
 // What of a child is listed, where it is not the child alone.
 #[derive(Clone, Copy)]
@@ -22,67 +28,57 @@ pub enum Part {
 }
 
 // Where a side's effects end, and whether it is a string.
-#[derive(Drop)]
+#[derive(Clone, Copy)]
 pub struct Side {
     pub next: usize,
     pub string: bool,
 }
 
-// The trees from record at on, in size records, in order. The walk goes into a node that is passed without a call.
+// The trees of a list, in order. The walk goes into a node that is passed without a call.
 #[cycle(listing)]
 pub fn list_children(
-    src: &[u8],
-    at: usize,
-    size: usize,
+    list: Trees,
     depth: usize,
-    settings: u8,
-    yes: &[u32],
+    settings: Settings,
     out: &mut [u64],
     pos: usize,
 ) -> usize
-    requires { GivenChildren src.now at size depth (settings_given yes.now settings) InOrder pos (length out.old) }
-    ensures { ListedChildren src.now at size depth (settings_given yes.now settings) InOrder out.old out.new pos result }
+    requires listable { All (Listable depth) (left list) }
+    requires room { pos + length (effects_of (given settings) (left list)) < length out.old }
+    ensures { Wrote out.old out.new pos result (effects_of (given settings.entry) (left list.entry)) }
 {
-    let end = at + size;
-    let mut p = at;
+    let mut walk = list;
     let mut next = pos;
-    while p < end {
-        if plan::is_passed(src, p) {
-            let itself = plan::passed_itself(src, p, settings);
-            next = entry::list_if(src, p, itself, 0, out, next);
-            p += 1;
+    while let Some(node) = walk.first() {
+        if plan::is_passed(node) {
+            let itself = plan::passed_itself(node, settings);
+            next = entry::list_if(node, itself, Effect::Itself, out, next);
+            walk.enter();
         } else {
-            let subtree = fields::subtree_at(src, p);
-            next = list_expr(src, p, subtree, depth, settings, yes, out, next);
-            p += subtree;
+            next = list_expr(node, depth, settings, out, next);
+            walk.next();
         }
     }
     next
 }
 
-// A part of each of the trees from record at on, in size records.
+// A part of each of the trees of a list.
 #[cycle(listing)]
 fn list_parts(
-    src: &[u8],
-    at: usize,
-    size: usize,
+    list: Trees,
     part: Part,
     depth: usize,
-    settings: u8,
-    yes: &[u32],
+    settings: Settings,
     out: &mut [u64],
     pos: usize,
 ) -> usize
-    requires { GivenChildren src.now at size depth (settings_given yes.now settings) (of part) pos (length out.old) }
-    ensures { ListedChildren src.now at size depth (settings_given yes.now settings) (of part) out.old out.new pos result }
+    requires listable { All (Listable depth) (left list) }
+    requires room { pos + length (concat_map (part_of part (given settings)) (left list)) < length out.old }
+    ensures { Wrote out.old out.new pos result (concat_map (part_of part (given settings.entry)) (left list.entry)) }
 {
-    let end = at + size;
-    let mut p = at;
     let mut next = pos;
-    while p < end {
-        let subtree = fields::subtree_at(src, p);
-        next = list_part(src, p, subtree, part, depth, settings, yes, out, next);
-        p += subtree;
+    for node in list {
+        next = list_part(node, part, depth, settings, out, next);
     }
     next
 }
@@ -90,218 +86,161 @@ fn list_parts(
 // A part of one tree.
 #[cycle(listing)]
 fn list_part(
-    src: &[u8],
-    at: usize,
-    size: usize,
+    node: Node,
     part: Part,
     depth: usize,
-    settings: u8,
-    yes: &[u32],
+    settings: Settings,
     out: &mut [u64],
     pos: usize,
 ) -> usize
-    requires { GivenTree src.now at size depth (settings_given yes.now settings) (of part) pos (length out.old) }
-    ensures { ListedTree src.now at size depth (settings_given yes.now settings) (of part) out.old out.new pos result }
+    requires listable { Listable depth (tree node) }
+    requires room { pos + length (part_of part (given settings) (tree node)) < length out.old }
+    ensures { Wrote out.old out.new pos result (part_of part (given settings.entry) (tree node.entry)) }
 {
     match part {
         Part::Coerced => {
-            let side = list_side(src, at, size, depth, settings, yes, out, pos);
-            let next = side.next;
-            let string = side.string;
-            let symbol = readings::possible_symbol_if(src, at, string);
-            entry::list_if(src, at, symbol, 1, out, next)
+            let side = list_side(node, depth, settings, out, pos);
+            let symbol = readings::possible_symbol_if(node.record, side.string);
+            entry::list_if(node, symbol, Effect::Coercion, out, side.next)
         }
         Part::Key => {
-            let key = readings::first_size(src, at, fields::sub_at(src, at) / 16 % 2);
-            let first = at + 1;
-            let below = depth - 1;
-            list_children(src, first, key, below, settings, yes, out, pos)
+            let (key, _) = node.key_and_value();
+            list_any(key, depth - 1, settings, out, pos)
         }
-        Part::Static => list_static(src, at, size, depth, settings, yes, out, pos),
+        Part::Static => list_static(node, depth, settings, out, pos),
     }
 }
 
 // The static value of a class element, or its block.
 #[cycle(listing)]
-fn list_static(
-    src: &[u8],
-    at: usize,
-    size: usize,
+fn list_static(node: Node, depth: usize, settings: Settings, out: &mut [u64], pos: usize) -> usize
+    requires listable { Listable depth (tree node) }
+    requires room { pos + length (part_of Part.Static (given settings) (tree node)) < length out.old }
+    ensures { Wrote out.old out.new pos result (part_of Part.Static (given settings.entry) (tree node.entry)) }
+{
+    let mut next = pos;
+    if readings::has_static_value(node.record) {
+        let (_, value) = node.key_and_value();
+        next = list_children(value, depth - 1, settings, out, pos);
+    }
+    let block = readings::nonempty_static_block(node.record);
+    entry::list_if(node, block, Effect::Itself, out, next)
+}
+
+// A tree, if there is one.
+#[cycle(listing)]
+fn list_any(
+    node: Option<Node>,
     depth: usize,
-    settings: u8,
-    yes: &[u32],
+    settings: Settings,
     out: &mut [u64],
     pos: usize,
 ) -> usize
-    requires { GivenTree src.now at size depth (settings_given yes.now settings) (of Part.Static) pos (length out.old) }
-    ensures { ListedTree src.now at size depth (settings_given yes.now settings) (of Part.Static) out.old out.new pos result }
+    requires listable { All (Listable depth) (option_to_list (option_map tree node)) }
+    requires room { pos + length (effects_of (given settings) (option_to_list (option_map tree node))) < length out.old }
+    ensures { Wrote out.old out.new pos result (effects_of (given settings.entry) (option_to_list (option_map tree node.entry))) }
 {
-    let block = readings::nonempty_static_block_at(src, at);
-    if readings::has_static_value_at(src, at) {
-        let key = readings::first_size(src, at, fields::sub_at(src, at) / 16 % 2);
-        let value = at + 1 + key;
-        let left = size - 1 - key;
-        let below = depth - 1;
-        let next = list_children(src, value, left, below, settings, yes, out, pos);
-        return entry::list_if(src, at, block, 0, out, next);
+    match node {
+        Some(tree) => list_children(tree.alone(), depth, settings, out, pos),
+        None => pos,
     }
-    entry::list_if(src, at, block, 0, out, pos)
 }
 
 // An expression that is not passed, by its plan.
 #[cycle(listing)]
-fn list_expr(
-    src: &[u8],
-    at: usize,
-    size: usize,
-    depth: usize,
-    settings: u8,
-    yes: &[u32],
-    out: &mut [u64],
-    pos: usize,
-) -> usize
-    requires { GivenExpression src.now at size depth (settings_given yes.now settings) pos (length out.old) }
-    ensures { ListedTree src.now at size depth (settings_given yes.now settings) InOrder out.old out.new pos result }
+fn list_expr(node: Node, depth: usize, settings: Settings, out: &mut [u64], pos: usize) -> usize
+    requires inner { is_passed (tree node).head.kind ≡ false }
+    requires listable { Listable depth (tree node) }
+    requires room { pos + length (effects (given settings) (tree node)) < length out.old }
+    ensures { Wrote out.old out.new pos result (effects (given settings.entry) (tree node.entry)) }
 {
-    let plan = plan::plan_of(src, at, settings, yes);
-    let first = at + 1;
-    let rest = size - 1;
     let below = depth - 1;
-    match plan {
+    let mut children = node.children();
+    match plan::plan_of(node, settings) {
         Plan::Nothing => pos,
         Plan::Children(when) => {
-            let next = list_children(src, first, rest, below, settings, yes, out, pos);
-            entry::list_if(src, at, when, 0, out, next)
+            let next = list_children(children, below, settings, out, pos);
+            entry::list_if(node, when, Effect::Itself, out, next)
         }
-        Plan::Coerced => {
-            let part = Part::Coerced;
-            list_parts(src, first, rest, part, below, settings, yes, out, pos)
+        Plan::Coerced => list_parts(children, Part::Coerced, below, settings, out, pos),
+        Plan::Arguments => {
+            children.next();
+            list_children(children, below, settings, out, pos)
         }
-        Plan::Arguments => list_arguments(src, at, size, depth, settings, yes, out, pos),
-        Plan::Test => {
-            let test = readings::first_size(src, at, 1);
-            list_children(src, first, test, below, settings, yes, out, pos)
-        }
-        Plan::Arm(when) => list_arm(src, at, size, when, depth, settings, yes, out, pos),
-        Plan::Addition => {
-            let sum = list_addition(src, at, size, depth, settings, yes, out, pos);
-            sum.next
-        }
-        Plan::Class => list_class(src, at, size, depth, settings, yes, out, pos),
+        Plan::Test => list_any(children.next(), below, settings, out, pos),
+        Plan::Arm(when) => list_arm(children, when, below, settings, out, pos),
+        Plan::Addition => list_addition(node, depth, settings, out, pos).next,
+        Plan::Class => list_class(node, depth, settings, out, pos),
     }
 }
 
-// What a pure call or new is given.
-#[cycle(listing)]
-fn list_arguments(
-    src: &[u8],
-    at: usize,
-    size: usize,
-    depth: usize,
-    settings: u8,
-    yes: &[u32],
-    out: &mut [u64],
-    pos: usize,
-) -> usize
-    requires { GivenPlanned src.now at size depth (settings_given yes.now settings) Plan.Arguments pos (length out.old) }
-    ensures { ListedTree src.now at size depth (settings_given yes.now settings) InOrder out.old out.new pos result }
-{
-    let callee = readings::first_size(src, at, 1);
-    let start = at + 1 + callee;
-    let left = size - 1 - callee;
-    let below = depth - 1;
-    list_children(src, start, left, below, settings, yes, out, pos)
-}
-
-// The test of a conditional, and then the consequent if the test counts as yes, or the alternate.
+// Of the children of a conditional: the test, and then the consequent if the test counts as yes, or the alternate.
 #[cycle(listing)]
 fn list_arm(
-    src: &[u8],
-    at: usize,
-    size: usize,
+    list: Trees,
     when: bool,
     depth: usize,
-    settings: u8,
-    yes: &[u32],
+    settings: Settings,
     out: &mut [u64],
     pos: usize,
 ) -> usize
-    requires { GivenPlanned src.now at size depth (settings_given yes.now settings) (Plan.Arm when) pos (length out.old) }
-    ensures { ListedTree src.now at size depth (settings_given yes.now settings) InOrder out.old out.new pos result }
+    requires listable { All (Listable depth) (left list) }
+    requires room { pos + length (tested when (given settings) (left list)) < length out.old }
+    ensures { Wrote out.old out.new pos result (tested when (given settings.entry) (left list.entry)) }
 {
-    let below = depth - 1;
-    let first = at + 1;
-    let test = fields::subtree_at(src, first);
-    let next = list_children(src, first, test, below, settings, yes, out, pos);
-    let second = first + test;
-    let consequent = fields::subtree_at(src, second);
+    let mut children = list;
+    let test = children.next();
+    let next = list_any(test, depth, settings, out, pos);
+    let consequent = children.next();
     if when {
-        return list_children(src, second, consequent, below, settings, yes, out, next);
+        return list_any(consequent, depth, settings, out, next);
     }
-    let third = second + consequent;
-    let alternate = size - 1 - test - consequent;
-    list_children(src, third, alternate, below, settings, yes, out, next)
+    list_children(children, depth, settings, out, next)
 }
 
 // A side of an addition, or a template's child: whether it is a string comes with its listing.
 #[cycle(listing)]
-fn list_side(
-    src: &[u8],
-    at: usize,
-    size: usize,
-    depth: usize,
-    settings: u8,
-    yes: &[u32],
-    out: &mut [u64],
-    pos: usize,
-) -> Side
-    requires { GivenTree src.now at size depth (settings_given yes.now settings) InOrder pos (length out.old) }
-    ensures { ListedSide src.now at size depth (settings_given yes.now settings) out.old out.new pos result.next result.string }
+fn list_side(node: Node, depth: usize, settings: Settings, out: &mut [u64], pos: usize) -> Side
+    requires listable { Listable depth (tree node) }
+    requires room { pos + length (effects (given settings) (tree node)) < length out.old }
+    ensures listed { Wrote out.old out.new pos result.next (effects (given settings.entry) (tree node.entry)) }
+    ensures string { result.string ≡ is_string (tree node.entry) }
 {
-    if fields::is_addition(src, at) {
-        return list_addition(src, at, size, depth, settings, yes, out, pos);
+    if node.record.is_addition() {
+        return list_addition(node, depth, settings, out, pos);
     }
-    let next = list_children(src, at, size, depth, settings, yes, out, pos);
-    let string = fields::string_fact_at(src, at);
+    let next = list_children(node.alone(), depth, settings, out, pos);
+    let string = node.record.has_string_fact();
     Side { next, string }
 }
 
 #[cycle(listing)]
-fn list_addition(
-    src: &[u8],
-    at: usize,
-    size: usize,
-    depth: usize,
-    settings: u8,
-    yes: &[u32],
-    out: &mut [u64],
-    pos: usize,
-) -> Side
-    requires { GivenSum src.now at size depth (settings_given yes.now settings) pos (length out.old) }
-    ensures { ListedSide src.now at size depth (settings_given yes.now settings) out.old out.new pos result.next result.string }
+fn list_addition(node: Node, depth: usize, settings: Settings, out: &mut [u64], pos: usize) -> Side
+    requires addition { is_addition (tree node) ≡ true }
+    requires listable { Listable depth (tree node) }
+    requires room { pos + length (effects (given settings) (tree node)) < length out.old }
+    ensures listed { Wrote out.old out.new pos result.next (effects (given settings.entry) (tree node.entry)) }
+    ensures string { result.string ≡ is_string (tree node.entry) }
 {
-    let below = depth - 1;
-    let left_size = fields::subtree_at(src, at + 1);
-    let left = list_side(src, at + 1, left_size, below, settings, yes, out, pos);
-    let mid = left.next;
-    let left_string = left.string;
-    let right = at + 1 + left_size;
-    let right_size = fields::subtree_at(src, right);
-    let second = list_side(src, right, right_size, below, settings, yes, out, mid);
-    let sides = second.next;
-    let right_string = second.string;
-    if left_string {
-        let symbol = readings::possible_symbol_if(src, right, right_string);
-        let next = entry::list_if(src, right, symbol, 1, out, sides);
+    let Some((left, right)) = node.first_two() else {
+        return Side {
+            next: pos,
+            string: false,
+        };
+    };
+    let first = list_side(left, depth - 1, settings, out, pos);
+    let second = list_side(right, depth - 1, settings, out, first.next);
+    if first.string {
+        let symbol = readings::possible_symbol_if(right.record, second.string);
+        let next = entry::list_if(right, symbol, Effect::Coercion, out, second.next);
         return Side { next, string: true };
     }
-    if fields::string_fact_at(src, right) {
-        let symbol = readings::possible_symbol_if(src, at + 1, left_string);
-        let next = entry::list_if(src, at + 1, symbol, 1, out, sides);
+    if right.record.has_string_fact() {
+        let symbol = readings::possible_symbol_if(left.record, first.string);
+        let next = entry::list_if(left, symbol, Effect::Coercion, out, second.next);
         return Side { next, string: true };
     }
-    let flagged = readings::flagged_at(src, at);
-    let next = entry::list_if(src, at, flagged, 0, out, sides);
+    let next = entry::list_if(node, node.is_flagged(), Effect::Itself, out, second.next);
     Side {
         next,
         string: false,
@@ -310,37 +249,15 @@ fn list_addition(
 
 // Heritage, the class itself, all computed keys, then static values and blocks.
 #[cycle(listing)]
-fn list_class(
-    src: &[u8],
-    at: usize,
-    size: usize,
-    depth: usize,
-    settings: u8,
-    yes: &[u32],
-    out: &mut [u64],
-    pos: usize,
-) -> usize
-    requires { GivenClass src.now at size depth (settings_given yes.now settings) pos (length out.old) }
-    ensures { ListedTree src.now at size depth (settings_given yes.now settings) InOrder out.old out.new pos result }
+fn list_class(node: Node, depth: usize, settings: Settings, out: &mut [u64], pos: usize) -> usize
+    requires listable { Listable depth (tree node) }
+    requires room { pos + length (planned Plan.Class (given settings) (tree node)) < length out.old }
+    ensures { Wrote out.old out.new pos result (planned Plan.Class (given settings.entry) (tree node.entry)) }
 {
-    let base = readings::first_size(src, at, fields::sub_at(src, at) / 2 % 2);
-    let first = at + 1;
     let below = depth - 1;
-    let next = list_children(src, first, base, below, settings, yes, out, pos);
-    let is_effect = readings::class_is_effect(src, at);
-    let own = entry::list_if(src, at, is_effect, 0, out, next);
-    let from = first + base;
-    let left = size - 1 - base;
-    let keys = list_parts(src, from, left, Part::Key, below, settings, yes, out, own);
-    list_parts(
-        src,
-        from,
-        left,
-        Part::Static,
-        below,
-        settings,
-        yes,
-        out,
-        keys,
-    )
+    let (heritage, elements) = node.heritage_and_elements();
+    let next = list_any(heritage, below, settings, out, pos);
+    let own = entry::list_if(node, node.class_is_effect(), Effect::Itself, out, next);
+    let keys = list_parts(elements, Part::Key, below, settings, out, own);
+    list_parts(elements, Part::Static, below, settings, out, keys)
 }

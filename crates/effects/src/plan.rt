@@ -1,15 +1,14 @@
 // What the effect list of a node is made of, by its kind, its facts, the settings and the places that count as yes.
-ghost use Rattle.std.specs.Prelude.{◌≡◌, true, false, ◌+◌, ◌≤◌};
-ghost use Rattle.tree.specs.Room.{records_in};
-ghost use Rattle.tree.specs.Fields.{head_at};
-ghost use Rattle.readings.specs.Node.{SomeNode, settings_given};
-ghost use Rattle.effects.specs.Plan.{Plans, PlansOf, PlansLogical};
-ghost use Rattle.effects.specs.Passed.{is_passed, PassesWith};
-ghost use Rattle.tree.specs.Kind.{unary, binary};
+ghost use Rattle.std.specs.Prelude.{◌≡◌, true};
+ghost use Rattle.readings.specs.Given.{given};
+ghost use Rattle.readings.specs.View.{tree};
+ghost use Rattle.effects.specs.Plan.{is_passed, plan};
+ghost use Rattle.effects.specs.Passed.{passed_itself};
 
-use fields::kind;
+use fields::record::kind;
+use readings::{Node, Settings};
 
-#[derive(Drop)]
+#[derive(Clone, Copy)]
 pub enum Plan {
     Nothing,
     // the children, and then itself where the value says so
@@ -26,56 +25,37 @@ pub enum Plan {
     Class,
 }
 
-fn plan_unary(src: &[u8], at: usize) -> Plan
-    requires { SomeNode src.now at }
-    ensures { PlansOf unary src.now at result }
+// The plan of a node that is not passed.
+#[tactic(auto, using(readings::specs::Alone::own), unfolding(crate::specs::Plan::plan, rules::specs::Handler::handler, readings::specs::At::tree_at))]
+pub fn plan_of(node: Node, settings: Settings) -> Plan
+    ensures { result ≡ plan (given settings.entry) (tree node.entry) }
 {
-    let sub = fields::sub_at(src, at);
-    if sub == 1 {
-        return Plan::Children(false);
+    match node.record.kind() {
+        kind::SPREAD => Plan::Children(node.is_flagged()),
+        kind::TEMPLATE => Plan::Coerced,
+        kind::UNARY => match node.record.sub() {
+            1 | 2 => Plan::Children(false),
+            3 if node.of_identifier() => Plan::Nothing,
+            3 => Plan::Children(false),
+            _ => Plan::Children(node.is_flagged()),
+        },
+        kind::BINARY => match node.record.sub() {
+            1 => Plan::Children(false),
+            2 => Plan::Addition,
+            _ => Plan::Children(node.is_flagged()),
+        },
+        kind::CALL if node.pure_call(settings) => Plan::Arguments,
+        kind::NEW if readings::pure_new(node.record, settings) => Plan::Arguments,
+        kind::CALL | kind::NEW => Plan::Children(node.is_flagged()),
+        kind::CLASS => Plan::Class,
+        // "its right side running on yes for and, on no for or"
+        kind::LOGICAL if node.test_is_yes(settings) == (node.record.sub() == 1) => Plan::Children(
+            false,
+        ),
+        kind::LOGICAL => Plan::Test,
+        kind::CONDITIONAL => Plan::Arm(node.test_is_yes(settings)),
+        _ => Plan::Children(false),
     }
-    if sub == 2 {
-        return Plan::Children(false);
-    }
-    if sub == 3 {
-        if readings::of_identifier(src, at) {
-            return Plan::Nothing;
-        }
-        return Plan::Children(false);
-    }
-    Plan::Children(readings::flagged_at(src, at))
-}
-
-fn plan_binary(src: &[u8], at: usize) -> Plan
-    requires { SomeNode src.now at }
-    ensures { PlansOf binary src.now at result }
-{
-    let sub = fields::sub_at(src, at);
-    if sub == 1 {
-        return Plan::Children(false);
-    }
-    if sub == 2 {
-        return Plan::Addition;
-    }
-    Plan::Children(readings::flagged_at(src, at))
-}
-
-// "its right side running on yes for and, on no for or"
-fn plan_logical(src: &[u8], at: usize, yes: &[u32]) -> Plan
-    requires { SomeNode src.now at }
-    ensures { PlansLogical src.now at yes.now result }
-{
-    let is_yes = readings::test_is_yes(src, at, yes);
-    if fields::sub_at(src, at) == 1 {
-        if is_yes {
-            return Plan::Children(false);
-        }
-        return Plan::Test;
-    }
-    if is_yes {
-        return Plan::Test;
-    }
-    Plan::Children(false)
 }
 
 // A bit for each kind whose own entry, if there is one, comes before what is listed under it: leaves, this, elision, array, object,
@@ -87,12 +67,10 @@ const LEAVES: usize = 0b11_1110;
 
 const THIS: usize = 0b100_0000;
 
-// Whether record at is passed.
-pub fn is_passed(src: &[u8], at: usize) -> bool
-    requires { at + 1 ≤ records_in src.now }
-    ensures { result ≡ is_passed (head_at src.now at).kind }
+pub fn is_passed(node: Node) -> bool
+    ensures { result ≡ is_passed (tree node.entry).head.kind }
 {
-    let kind = fields::kind_at(src, at);
+    let kind = node.record.kind();
     if 31 < kind {
         return false;
     }
@@ -100,48 +78,15 @@ pub fn is_passed(src: &[u8], at: usize) -> bool
 }
 
 // Whether a node that is passed is listed itself. By numbers rather than a test by kind, which would often be mispredicted.
-pub fn passed_itself(src: &[u8], at: usize, settings: u8) -> bool
-    requires { (at + 1 ≤ records_in src.now) × (is_passed (head_at src.now at).kind ≡ true) }
-    ensures { PassesWith src.now at settings result }
+pub fn passed_itself(node: Node, settings: Settings) -> bool
+    requires { is_passed (tree node).head.kind ≡ true }
+    ensures { result ≡ passed_itself (given settings.entry) (tree node.entry) }
 {
-    let flagged = if readings::flagged_at(src, at) {
-        LEAVES
-    } else {
-        0
-    };
-    let kinds = if settings / 4 % 2 == 1 {
+    let flagged = if node.is_flagged() { LEAVES } else { 0 };
+    let kinds = if settings.derived() {
         flagged + THIS
     } else {
         flagged
     };
-    (kinds >> fields::kind_at(src, at)) % 2 == 1
-}
-
-// The plan of a node that is not passed.
-pub fn plan_of(src: &[u8], at: usize, settings: u8, yes: &[u32]) -> Plan
-    requires { SomeNode src.now at × (is_passed (head_at src.now at).kind ≡ false) }
-    ensures { Plans src.now at (settings_given yes.now settings) result }
-{
-    match fields::kind_at(src, at) {
-        kind::SPREAD => Plan::Children(readings::flagged_at(src, at)),
-        kind::TEMPLATE => Plan::Coerced,
-        kind::UNARY => plan_unary(src, at),
-        kind::BINARY => plan_binary(src, at),
-        kind::CALL => {
-            if readings::pure_call(src, at, settings) {
-                return Plan::Arguments;
-            }
-            Plan::Children(readings::flagged_at(src, at))
-        }
-        kind::NEW => {
-            if readings::pure_new(src, at, settings) {
-                return Plan::Arguments;
-            }
-            Plan::Children(readings::flagged_at(src, at))
-        }
-        kind::CLASS => Plan::Class,
-        kind::LOGICAL => plan_logical(src, at, yes),
-        kind::CONDITIONAL => Plan::Arm(readings::test_is_yes(src, at, yes)),
-        _ => Plan::Children(false),
-    }
+    (kinds >> node.record.kind()) % 2 == 1
 }

@@ -1,2 +1,3 @@
-pub mod Facts
+pub mod Kind
 pub mod Place
+pub mod Record

@@ -1,44 +1,77 @@
-// The numbers of the kinds, by document 01's names; as definitions: crates/tree/specs/Kind.antt.
-pub const LITERAL: usize = 1;
+// The kinds of nodes, by document 01's names and with its numbers; as definitions: crates/tree/specs/Kind.antt.
+ghost use Rattle.fields.specs.Kind.{Decodes};
 
-pub const IDENTIFIER: usize = 2;
+use std::error::Error;
+use std::fmt;
 
-pub const FUNCTION: usize = 3;
+#[derive(Clone, Copy, Debug, PartialEq, Eq, PartialOrd, Ord, Hash)]
+pub enum Kind {
+    Literal = 1,
+    Identifier = 2,
+    Function = 3,
+    Arrow = 4,
+    OtherLeaf = 5,
+    This = 6,
+    Array = 7,
+    Elision = 8,
+    Spread = 9,
+    Object = 10,
+    Property = 11,
+    Template = 12,
+    Sequence = 13,
+    Unary = 14,
+    Binary = 15,
+    Call = 16,
+    New = 17,
+    Class = 18,
+    Element = 19,
+    Logical = 20,
+    Conditional = 21,
+    Assignment = 22,
+}
 
-pub const ARROW: usize = 4;
+// A number that no kind has.
+#[derive(Clone, Copy, Debug, PartialEq, Eq, Hash)]
+pub struct UnknownKind(pub u8);
 
-pub const OTHER_LEAF: usize = 5;
+impl TryFrom<u8> for Kind {
+    type Error = UnknownKind;
 
-pub const THIS: usize = 6;
+    ghost try_from_gives = { Decodes };
 
-pub const ARRAY: usize = 7;
+    fn try_from(number: u8) -> Result<Self, UnknownKind> {
+        match number {
+            1 => Ok(Kind::Literal),
+            2 => Ok(Kind::Identifier),
+            3 => Ok(Kind::Function),
+            4 => Ok(Kind::Arrow),
+            5 => Ok(Kind::OtherLeaf),
+            6 => Ok(Kind::This),
+            7 => Ok(Kind::Array),
+            8 => Ok(Kind::Elision),
+            9 => Ok(Kind::Spread),
+            10 => Ok(Kind::Object),
+            11 => Ok(Kind::Property),
+            12 => Ok(Kind::Template),
+            13 => Ok(Kind::Sequence),
+            14 => Ok(Kind::Unary),
+            15 => Ok(Kind::Binary),
+            16 => Ok(Kind::Call),
+            17 => Ok(Kind::New),
+            18 => Ok(Kind::Class),
+            19 => Ok(Kind::Element),
+            20 => Ok(Kind::Logical),
+            21 => Ok(Kind::Conditional),
+            22 => Ok(Kind::Assignment),
+            _ => Err(UnknownKind(number)),
+        }
+    }
+}
 
-pub const ELISION: usize = 8;
+impl fmt::Display for UnknownKind {
+    fn fmt<W: fmt::Write>(&self, f: &mut fmt::Formatter<W>) -> fmt::Result {
+        write!(f, "no kind has the number {}", self.0)
+    }
+}
 
-pub const SPREAD: usize = 9;
-
-pub const OBJECT: usize = 10;
-
-pub const PROPERTY: usize = 11;
-
-pub const TEMPLATE: usize = 12;
-
-pub const SEQUENCE: usize = 13;
-
-pub const UNARY: usize = 14;
-
-pub const BINARY: usize = 15;
-
-pub const CALL: usize = 16;
-
-pub const NEW: usize = 17;
-
-pub const CLASS: usize = 18;
-
-pub const ELEMENT: usize = 19;
-
-pub const LOGICAL: usize = 20;
-
-pub const CONDITIONAL: usize = 21;
-
-pub const ASSIGNMENT: usize = 22;
+impl Error for UnknownKind {}

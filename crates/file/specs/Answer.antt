@@ -1,11 +1,14 @@
 -- What the check answers: document 01's number and values for every case.
-use Rattle.std.specs.Prelude.{◌≡◌, refl, Bool, List, [], ◌∷◌, ℕ, zero, suc, length, get_or}
+use Rattle.std.specs.Prelude.{◌≡◌, refl, List, [], ◌∷◌, ℕ, zero, suc, length, get_or, Result, Ok, Err}
 use Rattle.std.proofs.Common.{sym, ap, arith}
 use Rattle.stated.specs.Stated.{Stated, injective_by}
+use Rattle.refusal.specs.declared.Refusal.{Refusal}
+use Rattle.refusal.specs.Number.{number_of, refusal_of, refusal_back}
 use Rattle.tree.specs.Fields.{settings_of, count_of}
-use Rattle.tree.specs.Refusal.{Limits, refusal}
-use Rattle.file.specs.declared.Checked.{Checked}
-use Rattle.file.specs.declared.Checked.TheVariants.{Refused, Accepted}
+use Rattle.tree.specs.Refusal as tree
+use Rattle.tree.specs.Refusal.{refusal}
+use Rattle.file.specs.declared.Limits.{Limits}
+use Rattle.file.specs.declared.Accepted.{Accepted}
 
 pub data Case : Type 0 where
   refused accepted : Case
@@ -17,13 +20,13 @@ refused_by n = record { case = Case.refused; number = n; values = [] }
 abbrev pub accepted_with : ℕ → ℕ → Stated Case
 accepted_with settings count = record { case = Case.accepted; number = 0; values = settings ∷ count ∷ [] }
 
-abbrev pub stated : Checked → Stated Case
-stated (Refused n) = refused_by n
-stated (Accepted settings count) = accepted_with settings count
+abbrev pub stated : Result Accepted Refusal → Stated Case
+stated (Ok a) = accepted_with a.settings a.count
+stated (Err r) = refused_by (number_of r)
 
 -- The limits that the check is handed.
-abbrev pub limits_of : ℕ → ℕ → Bool → Limits
-limits_of records depth logicals = record { records = records; depth = depth; logicals = logicals }
+abbrev pub limits_of : Limits → tree.Limits
+limits_of l = record { records = l.records; depth = l.depth; logicals = l.logicals }
 
 -- What is stated of a file that is refused with a number, or with none.
 abbrev pub stated_of : ℕ → List ℕ → Stated Case
@@ -31,27 +34,36 @@ stated_of zero s = accepted_with (settings_of s) (count_of s)
 stated_of (suc k) s = refused_by (suc k)
 
 -- What the check states of a file: the refusal's number, or the values of a file that none applies to.
-unfoldable pub checked : Limits → List ℕ → Stated Case
+unfoldable pub checked : tree.Limits → List ℕ → Stated Case
 checked limits s = stated_of (refusal limits s) s
 
 -- An answer is determined by what it states, since it can be read back.
-checked_of : Stated Case → Checked
+checked_of : Stated Case → Result Accepted Refusal
 checked_of s = from s.case s.number s.values
   where
-    from : Case → ℕ → List ℕ → Checked
-    from Case.refused n vs = Refused n
-    from Case.accepted n vs = Accepted (get_or vs 0 0) (get_or vs 1 0)
+    from : Case → ℕ → List ℕ → Result Accepted Refusal
+    from Case.refused n vs = Err (refusal_of n)
+    from Case.accepted n vs = Ok (record { settings = get_or vs 0 0; count = get_or vs 1 0 })
 
-pub stated_injective : (a b : Checked) → stated a ≡ stated b → a ≡ b
+pub stated_injective : (a b : Result Accepted Refusal) → stated a ≡ stated b → a ≡ b
 unfolding checked_of
 stated_injective = injective_by stated checked_of read
   where
-    read : (a : Checked) → checked_of (stated a) ≡ a
-    read (Refused n) = refl
-    read (Accepted s n) = refl
+    read : (a : Result Accepted Refusal) → checked_of (stated a) ≡ a
+    read (Ok a) = refl
+    read (Err r) = ap Err (refusal_back r)
+
+-- The number that is stated is the refusal's; 0 where none applies.
+pub checked_number : (limits : tree.Limits) (s : List ℕ) → (checked limits s).number ≡ refusal limits s
+unfolding checked
+checked_number limits s = go (refusal limits s)
+  where
+    go : (k : ℕ) → (stated_of k s).number ≡ k
+    go zero = refl
+    go (suc k) = refl
 
 -- What the check's answer says of the refusal.
-pub checked_refused : (limits : Limits) (s : List ℕ) (n : ℕ) → refused_by n ≡ checked limits s → (refusal limits s ≡ n) × (n ≡ 0 → ⊥)
+pub checked_refused : (limits : tree.Limits) (s : List ℕ) (n : ℕ) → refused_by n ≡ checked limits s → (refusal limits s ≡ n) × (n ≡ 0 → ⊥)
 unfolding checked
 checked_refused limits s n e = go (refusal limits s) e
   where
@@ -59,7 +71,7 @@ checked_refused limits s n e = go (refusal limits s) e
     go zero e = let z : ◌≡◌ {A = List ℕ} [] (settings_of s ∷ count_of s ∷ []) = ap (λ x. x.values) e in absurd (omega (arith, ap length z))
     go (suc m) e = let y : n ≡ suc m = ap (λ x. x.number) e in (sym y, λ z. omega arith)
 
-pub checked_accepted : (limits : Limits) (s : List ℕ) (settings n : ℕ) → accepted_with settings n ≡ checked limits s
+pub checked_accepted : (limits : tree.Limits) (s : List ℕ) (settings n : ℕ) → accepted_with settings n ≡ checked limits s
     → (refusal limits s ≡ 0) × (settings ≡ settings_of s) × (n ≡ count_of s)
 unfolding checked
 checked_accepted limits s settings n e = go (refusal limits s) e

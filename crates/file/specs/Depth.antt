@@ -1,7 +1,8 @@
 -- The depth of trees that stand in a list of bytes, walked sibling by sibling.
-use Rattle.std.specs.Prelude.{◌≡◌, refl, Bool, true, false, List, ℕ, suc, ◌+◌, ◌-◌, ◌<◌, ◌≤◌, max, leb}
+use Rattle.std.specs.Prelude.{◌≡◌, refl, Bool, true, false, List, ℕ, suc, ◌+◌, ◌-◌, ◌<◌, ◌≤◌, max, eqb, leb}
 use Rattle.std.proofs.Common.{sym, ◌∙◌, arith, le-leb, leb-true, leb-false}
 use Rattle.std.proofs.lemmas.Bool.{lt-leb}
+use Rattle.std.proofs.lemmas.Bool.Decides.{nat_tests}
 use Rattle.tree.specs.Tree.{Forest, nil, node, records, levels}
 use Rattle.tree.specs.Fields.{subtree_at}
 use Rattle.tree.specs.Walk.{Holds, Held, first_of, held_some, held_within, held_after}
@@ -16,18 +17,6 @@ pub record Walked (s : List ℕ) (at size depth p e : ℕ) : Type 0 where
   pub held : Held s p (e - p)
   pub whole : (r : Bool) → Low s p (e - p) depth r → Low s at size depth r
 
-pub walk_start : {s : List ℕ} {at size depth : ℕ} → Held s at size → Walked s at size depth at (at + size)
-walk_start {s} {at} {size} {depth} h =
-    let e : at + size - at ≡ size = omega arith in
-    record { inside = omega arith; held = rw e h; whole = λ r l. rw e at l }
-
-leb_iff : (a b c d : ℕ) → (a ≤ b → c ≤ d) → (b < a → d < c) → leb a b ≡ leb c d
-leb_iff a b c d f g = go (leb a b) refl
-  where
-    go : (t : Bool) → leb a b ≡ t → t ≡ leb c d
-    go true e = sym (le-leb c d (f (leb-true a b e)))
-    go false e = sym (lt-leb c d (g (leb-false a b e)))
-
 -- A list of trees has no more levels than records.
 few_levels : (f : Forest) → levels f ≤ records f
 few_levels nil = omega arith
@@ -37,12 +26,12 @@ module _ {s : List ℕ} {p size depth : ℕ} where
   low_few : size ≤ depth → Low s p size depth true
   low_few l = record { by = λ f d. sym (le-leb (levels f) depth (omega (arith, few_levels f, d.sized))) }
 
-  low_zero : 0 < size → depth ≡ 0 → Low s p size depth false
-  low_zero l z = record { by = go }
+  pub low_none : depth ≡ 0 → Low s p size depth (eqb size 0)
+  low_none z = record { by = go }
     where
-      go : (f : Forest) → Holds s p size f → false ≡ leb (levels f) depth
-      go nil d = absurd (omega (arith, d.sized))
-      go (node k cs rest) d = sym (lt-leb (max (suc (levels cs)) (levels rest)) depth (omega arith))
+      go : (f : Forest) → Holds s p size f → eqb size 0 ≡ leb (levels f) depth
+      go nil d = rw (z, d.sized)
+      go (node k cs rest) d = grind (arith, nat_tests, d.sized)
 
   module _ (l : 0 < size) (some : depth ≡ 0 → ⊥) (q : Bool) (a : Low s (p + 1) (subtree_at s p - 1) (depth - 1) q) where
     low_high : q ≡ false → Low s p size depth false
@@ -61,8 +50,7 @@ module _ {s : List ℕ} {p size depth : ℕ} where
         go nil d = absurd (omega (arith, d.sized))
         go (node k cs rest) d =
             let b : levels cs ≤ depth - 1 = leb-true (levels cs) (depth - 1) (sym (a.by cs (first_of k cs rest d).children) ∙ e) in
-            n.by rest (first_of k cs rest d).after
-            ∙ leb_iff (levels rest) depth (max (suc (levels cs)) (levels rest)) depth (λ x. omega arith) (λ x. omega arith)
+            n.by rest (first_of k cs rest d).after ∙ grind (arith, nat_tests)
 
 -- The steps of the walk.
 module _ {s : List ℕ} {at size depth p e : ℕ} (w : Walked s at size depth p e) where
@@ -70,9 +58,6 @@ module _ {s : List ℕ} {at size depth p e : ℕ} (w : Walked s at size depth p 
   walk_done l = w.whole true (low_few (omega (arith, w.inside)))
 
   module _ (l : p < e) where
-    pub walk_zero : depth ≡ 0 → Low s at size depth false
-    walk_zero z = w.whole false (low_zero (omega arith) z)
-
     module _ (some : depth ≡ 0 → ⊥) (z : ℕ) (ez : z ≡ subtree_at s p) (q : Bool) (a : Low s (p + 1) (z - 1) (depth - 1) q) where
       a' : Low s (p + 1) (subtree_at s p - 1) (depth - 1) q
       a' = rw ez at a

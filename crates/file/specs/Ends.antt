@@ -1,5 +1,5 @@
 -- The test of ends: in version 1 there is none to fail, and in version 2 each is compared.
-use Rattle.std.specs.Prelude.{◌≡◌, true, false, List, ℕ, ◌<◌, ◌≤◌}
+use Rattle.std.specs.Prelude.{◌≡◌, true, false, List, ℕ, ◌<◌}
 use Rattle.std.proofs.Common.{le_refl, le-leb}
 use Rattle.std.proofs.lemmas.Bool.{lt-leb}
 use Rattle.tree.specs.Tree.{Place}
@@ -18,11 +18,6 @@ said_good v e p = rw e (start_only p)
 pub ends_none : (s : List ℕ) → version_in s ≡ v1 → (n : ℕ) → all_below (λ i. end_ok (head_at s i).place) n ≡ true
 ends_none s e n = all_of (λ i. end_ok (head_at s i).place) n (λ i l. said_good (version_in s) e _)
 
-module _ {p q : Place} (e : p ≡ q) where
-  pub end_good : p.start ≤ p.end → end_ok q ≡ true
-  unfolding end_ok
-  end_good l = rw (← e) (le-leb p.start p.end l)
-
-  pub end_bad : p.end < p.start → end_ok q ≡ false
-  unfolding end_ok
-  end_bad l = rw (← e) (lt-leb p.start p.end l)
+pub end_bad : {p q : Place} → p ≡ q → p.end < p.start → end_ok q ≡ false
+unfolding end_ok
+end_bad {p} e l = rw (← e) (lt-leb p.start p.end l)

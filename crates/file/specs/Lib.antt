@@ -7,3 +7,4 @@ pub mod Run
 pub mod Steps
 pub mod Symbols
 pub mod Ends
+pub mod Kinds

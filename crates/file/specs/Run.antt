@@ -1,6 +1,6 @@
 -- The check, test by test: which number it comes to, and the tree once the shape has passed.
 use Rattle.std.specs.Prelude.{◌≡◌, Bool, true, false, List, ℕ, ◌<◌, ◌≤◌}
-use Rattle.std.proofs.Common.{sym, le-ltb}
+use Rattle.std.proofs.Common.{sym}
 use native.Mathlib.Omega.{arith}
 use Rattle.tree.specs.Tree.{one, levels, depth}
 use Rattle.tree.specs.Below.{all_below}
@@ -34,10 +34,6 @@ module _ (limits : Limits) (s : List ℕ) where
       pub refused_3 : settings_ok s ≡ false → refused_by 3 ≡ checked limits s
       unfolding refusal
       refused_3 e = stated_as limits s 3 (rw (mark, version, e))
-
-      pub settings_over : 8 ≤ settings_of s → refused_by 3 ≡ checked limits s
-      unfolding settings_ok
-      settings_over l = refused_3 (le-ltb (settings_of s) 8 l)
 
       module _ (settings : settings_ok s ≡ true) where
         pub refused_4 : count_ok limits.records s ≡ false → refused_by 4 ≡ checked limits s

@@ -4,7 +4,7 @@ use Rattle.std.specs.Prelude.{◌≡◌, Bool, cond, ◌&&◌, ◌||◌, List, e
 use Rattle.std.proofs.Math.Path.{refl, ap}
 use Rattle.std.proofs.Common.{sym, ◌∙◌, true≢false}
 use Rattle.std.proofs.Math.Bool.{true, false, not, and-true}
-use Prim.Native.Nat.{ℕ, zero, suc, ◌+◌, ◌-◌, ◌/◌, ◌%◌, ◌<◌, ◌≤◌}
+use Prim.Native.Nat.{ℕ, zero, suc, ◌+◌, ◌-◌, ◌<◌, ◌≤◌}
 use native.Mathlib.Omega.{arith}
 use Rattle.std.proofs.Math.Dec.{leb}
 use borrow.Author.Tests.{eqb-true, leb-true}
@@ -22,19 +22,6 @@ use Rattle.tree.specs.Kind as kind
 -- Whether a node of head h is an addition that is said to be a symbol, or that is on the left of one, as `symbol` says of it.
 unfoldable pub goes_on : Bool → Head → Bool
 goes_on symbol h = is_addition (alone h) && (symbol || symbol_yes h)
-
--- The choices that are made of the kind k, the sub u and the facts f of a node that is on the left of no such addition.
-pub said_picked : (h : Head) (k u f : ℕ) → k ≡ h.kind → u ≡ h.sub → f ≡ h.facts → eqb (cond (eqb (cond (eqb k kind.binary) u 0) 2) (f / 2 % 4) 0) 2 ≡ goes_on false h
-unfolding goes_on is_addition symbol_yes
-said_picked h k u f ek eu ef = rw (ek, eu, ef) (go (eqb h.kind kind.binary))
-  where
-    of_sub : (b : Bool) → eqb (cond b (h.facts / 2 % 4) 0) 2 ≡ (b && eqb (h.facts / 2 % 4) 2)
-    of_sub true = refl
-    of_sub false = refl
-
-    go : (b : Bool) → eqb (cond (eqb (cond b h.sub 0) 2) (h.facts / 2 % 4) 0) 2 ≡ ((b && eqb h.sub 2) && eqb (h.facts / 2 % 4) 2)
-    go true = of_sub (eqb h.sub 2)
-    go false = refl
 
 -- What is asked of the node of head h: where the chain goes on, of its right side, of head r; where it ends, of the node itself.
 unfoldable pub part_ok : Head → Head → Bool → Bool → Bool
@@ -64,26 +51,12 @@ pub record GivenPart (s : List ℕ) (i : ℕ) (on : Bool) : Type 0 where
   pub right_inside : on ≡ true → right_of s i + 1 ≤ records_in s
 
 -- One node: what is asked of it and of what is under it, c, and of what is behind that, d and e.
-assoc : (c d e : Bool) → (c && (d && e)) ≡ ((c && d) && e)
-assoc true d e = refl
-assoc false d e = refl
-
 of_sum : (symbol said a b x c d e : Bool)
     → (cond (symbol || said) (not b) (not (symbol && x)) && (not ((symbol || said) && a) && (c && (d && e)))) ≡ (not (symbol && (a || b)) && ((not (said && (a || b)) && (c && d)) && e))
-of_sum true said true true x c d e = refl
-of_sum true said true false x c d e = refl
-of_sum true said false true x c d e = refl
-of_sum true true false false x c d e = assoc c d e
-of_sum true false false false x c d e = assoc c d e
-of_sum false true true true x c d e = refl
-of_sum false true true false x c d e = refl
-of_sum false true false true x c d e = refl
-of_sum false true false false x c d e = assoc c d e
-of_sum false false a b x c d e = assoc c d e
+of_sum symbol said a b x c d e = grind arith
 
 of_other : (symbol said x c d e : Bool) → (not (symbol && x) && (c && (d && e))) ≡ (not (symbol && x) && ((not (said && false) && (c && d)) && e))
-of_other symbol true x c d e = ap (not (symbol && x) &&◌) (assoc c d e)
-of_other symbol false x c d e = ap (not (symbol && x) &&◌) (assoc c d e)
+of_other symbol said x c d e = grind arith
 
 same_addition : (h : Head) (cs : Forest) → is_addition (record { head = h; kids = cs }) ≡ is_addition (alone h)
 unfolding is_addition

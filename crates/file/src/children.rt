@@ -1,17 +1,19 @@
 // Refusal 7: child counts, subtree sizes, and which kinds may stand where.
-ghost use Rattle.std.specs.Prelude.{◌≡◌, true, cond, ◌+◌, ◌<◌, ◌≤◌};
+ghost use Rattle.std.specs.Prelude.{◌≡◌, true, ◌+◌, ◌<◌, ◌≤◌};
 ghost use Rattle.tree.specs.Kind.{is_expression};
 ghost use Rattle.tree.specs.Room.{records_in};
-ghost use Rattle.tree.specs.Fields.{count_of, head_at, children_at};
+ghost use Rattle.tree.specs.Fields.{count_of, children_at};
 ghost use Rattle.tree.specs.Children.{child_count_ok};
 ghost use Rattle.tree.specs.Refusal.{children_end, shape_at, shape_ok};
+ghost use Rattle.fields.specs.Record.{head};
 ghost use Rattle.file.specs.Bounds.{least_children, most_children, count_within};
-ghost use Rattle.file.specs.Parents.{kinds_under, first_under, holds};
+ghost use Rattle.file.specs.Parents.{kinds_under, first_under};
 
-use fields::kind;
+use crate::kinds::{bits_of, has, pick};
+use fields::Record;
+use fields::record::kind;
 
-// A bit for each kind that may stand somewhere; bit 31 is that of all kinds from 31 on. Numbers in place of tables or tests by kind, which
-// would often be mispredicted.
+// The kinds that may stand somewhere, a bit for each.
 const EXPRESSIONS: usize = 0b1111_1111_1111_0111_1111_0100_1111_1111;
 
 const ARRAY_CHILDREN: usize = 0b1111_1111_1111_0111_1111_0111_1111_1111;
@@ -22,73 +24,58 @@ const OBJECT_CHILDREN: usize = 0b1010_0000_0000;
 
 const CLASS_ELEMENTS: usize = 0b1000_0000_0000_0000_0000;
 
-// Two bits for each kind: the least number of children, and the most; a most of 3 is any number, unless the least is 3 too.
+// The least number of children of a kind, and the most; a most of 3 is any number, unless the least is 3 too.
 const LEAST_CHILDREN: usize = 0b11_10_00_00_01_01_10_01_00_00_00_00_01_00_00_00_00_00_00_00_00_00;
 
 const MOST_CHILDREN: usize =
     0b11_11_11_11_11_11_11_11_11_11_11_10_11_11_11_11_10_01_11_11_11_11_01_00_11_00_00_00_00_00_00_11;
 
-fn is_expression(kind: usize) -> bool
+fn is_expression(kind: u8) -> bool
     ensures { result ≡ is_expression kind }
 {
     has(EXPRESSIONS, kind)
 }
 
-fn least_children(kind: usize) -> usize
+fn least_children(kind: u8) -> usize
     ensures { result ≡ least_children kind }
 {
-    if 31 < kind {
-        return 0;
-    }
-    (LEAST_CHILDREN >> (2 * kind)) % 4
+    bits_of(LEAST_CHILDREN, 2, kind)
 }
 
-fn most_children(kind: usize) -> usize
+fn most_children(kind: u8) -> usize
     ensures { result ≡ most_children kind }
 {
-    if 31 < kind {
-        return 3;
-    }
-    (MOST_CHILDREN >> (2 * kind)) % 4
+    bits_of(MOST_CHILDREN, 2, kind)
 }
 
-fn count_within(kind: usize, n: usize) -> bool
+#[tactic(auto, using(std::proofs::lemmas::Bool::Decides::nat_tests), unfolding(crate::specs::Bounds::count_within))]
+fn count_within(kind: u8, n: usize) -> bool
     ensures { result ≡ count_within kind n }
 {
     let most = most_children(kind);
-    if most < n {
-        if most != 3 {
-            return false;
-        }
-        return least_children(kind) != 3;
+    if n <= most {
+        return least_children(kind) <= n;
     }
-    least_children(kind) <= n
+    most == 3 && least_children(kind) != 3
 }
 
-fn child_count_ok(src: &[u8], i: usize) -> bool
-    requires { i + 1 ≤ records_in src.now }
-    ensures { result ≡ child_count_ok (head_at src.now i) (children_at src.now i) }
+#[tactic(auto, using(std::proofs::lemmas::Bool::Decides::nat_tests), unfolding(tree::specs::Children::child_count_ok))]
+fn child_count_ok(node: Record) -> bool
+    ensures { result ≡ child_count_ok (head node.entry) (children_at node.entry.src.now node.entry.at) }
 {
-    let kind = fields::kind_at(src, i);
-    let sub = fields::sub_at(src, i);
-    let n = fields::children_at(src, i);
-    match kind {
+    let sub = usize::from(node.sub());
+    let n = node.children();
+    match node.kind() {
         kind::PROPERTY => n == 1 + sub,
         kind::CLASS => sub / 2 % 2 <= n,
         kind::ELEMENT => n == sub / 16 % 2 + sub / 64 % 2,
-        _ => count_within(kind, n),
+        kind => count_within(kind, n),
     }
 }
 
-// A choice that the compiler makes without a branch.
-pub fn pick(test: bool, yes: usize, no: usize) -> usize
-    ensures { result ≡ cond test yes no }
-{
-    if test { yes } else { no }
-}
-
 // The kinds that a kind takes as children, but for a callee and a heritage.
-fn kinds_under(kind: usize) -> usize
+#[tactic(auto, unfolding(crate::specs::Parents::kinds_under))]
+fn kinds_under(kind: u8) -> usize
     ensures { result ≡ kinds_under kind }
 {
     let array = pick(kind == kind::ARRAY, ARRAY_CHILDREN, EXPRESSIONS);
@@ -99,7 +86,8 @@ fn kinds_under(kind: usize) -> usize
 }
 
 // The kinds that a node takes as its first child, where `kinds` are those of its others.
-fn first_under(kind: usize, sub: usize, kinds: usize) -> usize
+#[tactic(auto, unfolding(crate::specs::Parents::first_under))]
+fn first_under(kind: u8, sub: u8, kinds: usize) -> usize
     ensures { result ≡ first_under kind sub kinds }
 {
     let heritage = pick(sub / 2 % 2 == 1, EXPRESSIONS, kinds);
@@ -108,78 +96,55 @@ fn first_under(kind: usize, sub: usize, kinds: usize) -> usize
     pick(kind == kind::CALL, EXPRESSIONS, new)
 }
 
-fn has(kinds: usize, kind: usize) -> bool
-    ensures { result ≡ holds kinds kind }
+// Whether the node's children, from the record behind it on, end exactly at record end, and each may stand there.
+fn children_end(node: Record, end: usize) -> bool
+    requires { end ≤ records_in node.src.now }
+    ensures { result ≡ children_end node.entry.src.now (head node.entry) true (children_at node.entry.src.now node.entry.at) (node.entry.at + 1) end }
 {
-    let bit = pick(31 < kind, 31, kind);
-    (kinds >> bit) % 2 == 1
-}
-
-// Whether n children of record i, from record i + 1 on, end exactly at record end, and each may stand there.
-fn children_end(src: &[u8], i: usize, n: usize, end: usize) -> bool
-    requires { (end ≤ records_in src.now) × (i < end) }
-    ensures { result ≡ children_end src.now (head_at src.now i) true n (i + 1) end }
-{
-    let kind = fields::kind_at(src, i);
+    let kind = node.kind();
     let kinds = kinds_under(kind);
-    let mut taken = first_under(kind, fields::sub_at(src, i), kinds);
-    let mut p = i + 1;
-    let mut k = n;
-    while 0 < k {
-        if end <= p {
+    let mut taken = first_under(kind, node.sub(), kinds);
+    let n = node.children();
+    let src = node.src;
+    let mut at = node.at + 1;
+    for _ in 0..n {
+        if end <= at {
             return false;
         }
-        let size = fields::subtree_at(src, p);
-        if size == 0 {
-            return false;
-        }
-        if end - p < size {
-            return false;
-        }
-        if !has(taken, fields::kind_at(src, p)) {
+        let child = Record { src, at };
+        let size = child.subtree();
+        if size == 0 || end - at < size || !has(taken, child.kind()) {
             return false;
         }
         taken = kinds;
-        p += size;
-        k -= 1;
+        at += size;
     }
-    p == end
+    at == end
 }
 
-fn shape_at(src: &[u8], n: usize, i: usize) -> bool
-    requires { (n ≤ records_in src.now) × (i < n) }
-    ensures { result ≡ shape_at src.now n i }
+#[tactic(auto, using(std::proofs::lemmas::Bool::Decides::nat_tests), unfolding(tree::specs::Refusal::shape_at))]
+fn shape_at(node: Record, n: usize) -> bool
+    requires { (n ≤ records_in node.src.now) × (node.at < n) }
+    ensures { result ≡ shape_at node.entry.src.now n node.entry.at }
 {
-    let size = fields::subtree_at(src, i);
-    if n - i < size {
-        return false;
-    }
-    if size == 0 {
-        return false;
-    }
-    if child_count_ok(src, i) {
-        return children_end(src, i, fields::children_at(src, i), i + size);
-    }
-    false
+    let size = node.subtree();
+    size <= n - node.at && child_count_ok(node) && children_end(node, node.at + size)
 }
 
-// Linear: record i is looked at once as itself and, as long as no record has failed, once as a child.
-#[tactic(auto, using(crate::specs::Steps::shape_root))]
+// Linear: a record is looked at once as itself and, as long as no record has failed, once as a child. Not made one with the other walks
+// over the records, where it would be slower.
+#[tactic(auto, using(std::proofs::lemmas::Bool::Decides::nat_tests, tree::specs::Below::all_none, tree::specs::Below::all_more), unfolding(tree::specs::Refusal::shape_ok))]
+#[inline(never)]
 pub fn shape_ok(src: &[u8], n: usize) -> bool
     requires { (n ≤ records_in src.now) × (n ≡ count_of src.now) × (0 < n) }
     ensures { result ≡ shape_ok src.now }
 {
-    if fields::subtree_at(src, 0) != n {
+    let root = Record { src, at: 0 };
+    if root.subtree() != n || !is_expression(root.kind()) {
         return false;
     }
-    if !is_expression(fields::kind_at(src, 0)) {
-        return false;
-    }
-    let mut i = 0;
-    while i < n {
-        if shape_at(src, n, i) {
-            i += 1;
-        } else {
+    for at in 0..n {
+        if !shape_at(Record { src, at }, n) {
             return false;
         }
     }

@@ -6,7 +6,10 @@ ghost use Rattle.tree.specs.Room.{records_in};
 ghost use Rattle.tree.specs.Fields.{head_at};
 ghost use Rattle.tree.specs.Record.{end_ok};
 
+use fields::Record;
+
 // Whether no end of the first n records lies before its start. Records of version 1 have none, and are not looked at.
+#[tactic(auto, using(std::proofs::lemmas::Bool::Decides::nat_tests, tree::specs::Below::all_none, tree::specs::Below::all_more), unfolding(tree::specs::Record::end_ok))]
 pub fn ends_ok(src: &[u8], n: usize) -> bool
     requires { (header_bytes ≤ length src.now) × (n ≤ records_in src.now) }
     ensures { result ≡ all_below (λ i. end_ok (head_at src.now i).place) n }
@@ -14,13 +17,11 @@ pub fn ends_ok(src: &[u8], n: usize) -> bool
     if !fields::has_ends(src) {
         return true;
     }
-    let mut i = 0;
-    while i < n {
-        let place = fields::place_at(src, i);
+    for at in 0..n {
+        let place = Record { src, at }.place();
         if place.end < place.start {
             return false;
         }
-        i += 1;
     }
     true
 }

@@ -4,112 +4,130 @@
 mod children;
 mod depth;
 mod ends;
+mod kinds;
 mod record;
 mod symbols;
 
-ghost use Rattle.std.specs.Prelude.{◌≡◌, ◌<◌, ◌≤◌, length};
+ghost use Rattle.std.specs.Prelude.{◌≡◌, ◌<◌, ◌≤◌, length, MatchResult};
 ghost use Rattle.tree.specs.Layout.{header_bytes};
 ghost use Rattle.tree.specs.Refusal.{mark_ok, version_ok, count_ok};
-ghost use Rattle.tree.specs.Fields.{count_of};
-ghost use Rattle.file.specs.Answer.{limits_of, stated, checked};
+ghost use Rattle.tree.specs.Fields.{settings_of, count_of};
+ghost use Rattle.file.specs.Answer.{limits_of, stated, checked, accepted_with, refused_by};
+ghost use Rattle.file.specs.Run.{Headed};
+ghost use Rattle.refusal.specs.Number.{number_of};
 
-// How many records and levels an operation takes, and whether logical nodes; as definitions: `reduce_limits` and `list_effects_limits`.
-pub const REDUCE_RECORDS: usize = 2000;
+use refusal::Refusal;
 
-pub const REDUCE_DEPTH: usize = 64;
+// How many records and levels an operation takes, and whether logical nodes.
+#[derive(Clone, Copy)]
+pub struct Limits {
+    pub records: usize,
+    pub depth: usize,
+    pub logicals: bool,
+}
 
-pub const REDUCE_LOGICALS: bool = false;
+// As definitions: `reduce_limits` and `list_effects_limits`.
+impl Limits {
+    pub const REDUCE: Limits = Limits {
+        records: 2000,
+        depth: 64,
+        logicals: false,
+    };
 
-pub const LIST_EFFECTS_RECORDS: usize = 3999;
+    pub const LIST_EFFECTS: Limits = Limits {
+        records: 3999,
+        depth: 65,
+        logicals: true,
+    };
+}
 
-pub const LIST_EFFECTS_DEPTH: usize = 65;
-
-pub const LIST_EFFECTS_LOGICALS: bool = true;
-
-#[derive(Drop)]
-pub enum Checked {
-    // The number of the first refusal that applies.
-    Refused(u8),
-    // No refusal applies: the settings byte and the record count.
-    Accepted { settings: u8, count: usize },
+// What the header of an accepted file says: the settings byte and the record count.
+#[derive(Clone, Copy)]
+pub struct Accepted {
+    pub settings: u8,
+    pub count: usize,
 }
 
 #[tactic(auto, using(std::proofs::lemmas::Bool::Decides::nat_tests), unfolding(tree::specs::Refusal::mark_ok))]
 fn mark_ok(src: &[u8]) -> bool
     ensures { result ≡ mark_ok src.now }
 {
-    if src.len() < fields::HEADER_BYTES {
-        return false;
-    }
-    if src[0] != b'U' {
-        return false;
-    }
-    if src[1] != b'X' {
-        return false;
-    }
-    src[2] == b'T'
+    fields::HEADER_BYTES <= src.len() && src.starts_with(b"UXT")
 }
 
+#[tactic(auto, using(std::proofs::lemmas::Bool::Decides::nat_tests), unfolding(tree::specs::Refusal::version_ok))]
 fn version_ok(src: &[u8]) -> bool
     requires { header_bytes ≤ length src.now }
     ensures { result ≡ version_ok src.now }
 {
-    let version = le::get16(src, 3);
-    if version == 1 {
-        return true;
-    }
-    version == 2
+    matches!(le::get16(src, 3), 1 | 2)
 }
 
+#[tactic(auto, using(std::proofs::lemmas::Bool::Decides::nat_tests, tree::specs::Room::start_small), unfolding(tree::specs::Refusal::count_ok))]
 fn count_ok(src: &[u8], n: usize, most: usize) -> bool
     requires { (n ≡ count_of src.now) × (n < 65536) × (header_bytes ≤ length src.now) }
     ensures { result ≡ count_ok most src.now }
 {
-    if n == 0 {
-        return false;
-    }
-    if most < n {
-        return false;
-    }
-    src.len() == fields::file_length(src, n)
+    1 <= n && n <= most && src.len() == fields::file_length(src, n)
 }
 
-// Whether src is a tree file of at most so many records and levels, with logical nodes or without.
-#[tactic(auto, using(crate::specs::Run::settings_over))]
-pub fn check(src: &[u8], records: usize, depth: usize, logicals: bool) -> Checked
-    ensures { stated result ≡ checked (limits_of records depth logicals) src.now }
+// Refusals 1 to 4.
+#[tactic(auto, using(crate::specs::Run::refused_1, crate::specs::Run::refused_2, crate::specs::Run::refused_3, crate::specs::Run::refused_4, tree::proofs::Accepted::mark_long, std::proofs::lemmas::Bool::Decides::nat_tests), unfolding(tree::specs::Refusal::settings_ok))]
+fn check_header(src: &[u8], limits: Limits) -> Result<Accepted, Refusal>
+    ensures { MatchResult result
+        (λ a. Headed (limits_of limits) src.now a.count × (a.settings ≡ settings_of src.now))
+        (λ r. refused_by (number_of r) ≡ checked (limits_of limits) src.now) }
 {
     if !mark_ok(src) {
-        return Checked::Refused(1);
+        return Err(Refusal::Mark);
     }
     if !version_ok(src) {
-        return Checked::Refused(2);
+        return Err(Refusal::Version);
     }
     let settings = src[5];
     if 8 <= settings {
-        return Checked::Refused(3);
+        return Err(Refusal::Settings);
     }
-    let n = le::get16(src, 6);
-    if !count_ok(src, n, records) {
-        return Checked::Refused(4);
+    let count = le::get16(src, 6) as usize;
+    if !count_ok(src, count, limits.records) {
+        return Err(Refusal::Count);
     }
-    if !record::records_ok(src, n) {
-        return Checked::Refused(5);
+    Ok(Accepted { settings, count })
+}
+
+// Refusals 5 to 8 and 17, once the header has passed.
+fn check_records(src: &[u8], limits: Limits, count: usize) -> Result<(), Refusal>
+    requires { Headed (limits_of limits) src.now count }
+    ensures { MatchResult result
+        (λ _. accepted_with (settings_of src.now) count ≡ checked (limits_of limits) src.now)
+        (λ r. refused_by (number_of r) ≡ checked (limits_of limits) src.now) }
+{
+    if !record::records_ok(src, count) {
+        return Err(Refusal::Record);
     }
-    if !record::all_taken(src, n, logicals) {
-        return Checked::Refused(6);
+    if !record::all_taken(src, count, limits.logicals) {
+        return Err(Refusal::Kind);
     }
-    if !children::shape_ok(src, n) {
-        return Checked::Refused(7);
+    if !children::shape_ok(src, count) {
+        return Err(Refusal::Shape);
     }
-    if !symbols::additions_ok(src, n) {
-        return Checked::Refused(5);
+    if !symbols::additions_ok(src, count) {
+        return Err(Refusal::Record);
     }
-    if !ends::ends_ok(src, n) {
-        return Checked::Refused(17);
+    if !ends::ends_ok(src, count) {
+        return Err(Refusal::End);
     }
-    if !depth::levels_ok(src, 0, n, depth) {
-        return Checked::Refused(8);
+    if !depth::levels_ok(src, 0, count, limits.depth) {
+        return Err(Refusal::Depth);
     }
-    Checked::Accepted { settings, count: n }
+    Ok(())
+}
+
+// Whether src is a tree file within the limits; an error is the first refusal that applies.
+pub fn check(src: &[u8], limits: Limits) -> Result<Accepted, Refusal>
+    ensures { stated result ≡ checked (limits_of limits) src.now }
+{
+    let header = check_header(src, limits)?;
+    check_records(src, limits, header.count)?;
+    Ok(header)
 }

@@ -1,12 +1,10 @@
--- Which outcome a handler chooses, and the steps of the choices over what the code read.
-use Rattle.std.specs.Prelude.{◌≡◌, refl, Bool, true, false, cond, List, ℕ, eqb}
-use Rattle.std.proofs.Common.{sym, ap, ◌∙◌}
+-- Which outcome a handler chooses.
+use Rattle.std.specs.Prelude.{Bool, cond, eqb}
 use Rattle.tree.specs.Tree.{Tree}
 use Rattle.rules.specs.Settings.{Settings, derived}
-use Rattle.rules.specs.Handler.{Handler}
+use Rattle.rules.specs.Handler.{Handler, handler}
 use Rattle.rules.specs.Facts.{flagged, of_identifier, pure_new, pure_call, has_side_effects_or_preserved_iife, unchanged_template, only_spreads, flagged_child}
 use Rattle.rules.specs.Class.{kept_class}
-use Rattle.readings.specs.Node.{Node, Tells}
 use Rattle.handlers.specs.declared.outcome.Outcome.{Outcome}
 use Rattle.handlers.specs.declared.outcome.Outcome.TheVariants.{Removable, Unchanged, Unwrapped, Rewritten, Arguments, Addition, Class, Conditional}
 use Rattle.handlers.specs.declared.outcome.Rewrite.TheVariants.{Sequence, Array, Template, Object, Comparison}
@@ -84,21 +82,6 @@ of_unary t =
 abbrev pub of_binary : Tree → Outcome
 of_binary t = cond (eqb t.head.sub 1) (Rewritten Comparison) (cond (eqb t.head.sub 2) (of_addition t) (stays_if (flagged t)))
 
--- o is what c chooses for the tree that stands at record i.
-pub record Chooses (b : List ℕ) (i : ℕ) (c : Tree → Outcome) (o : Outcome) : Type 0 where
-  pub by : (t : Tree) → Node b i t → o ≡ c t
-
-module _ {b : List ℕ} {i : ℕ} where
-  pub always : (o : Outcome) → Chooses b i (λ t. o) o
-  always o = record { by = λ t n. refl }
-
-  pub stays : {p : Tree → Bool} {a : Bool} {o : Outcome} → o ≡ stays_if a → Tells b i p a → Chooses b i (λ t. stays_if (p t)) o
-  stays e w = record { by = λ t n. e ∙ ap stays_if (w.by t n) }
-
-  -- A choice by a test.
-  module _ {p : Tree → Bool} {a : Bool} (w : Tells b i p a) (c d : Tree → Outcome) where
-    pub where_true : a ≡ true → {o : Outcome} → Chooses b i c o → Chooses b i (λ t. cond (p t) (c t) (d t)) o
-    where_true e x = record { by = λ t n. x.by t n ∙ sym (ap (λ (y : Bool). cond y (c t) (d t)) (sym (w.by t n) ∙ e)) }
-
-    pub where_false : a ≡ false → {o : Outcome} → Chooses b i d o → Chooses b i (λ t. cond (p t) (c t) (d t)) o
-    where_false e x = record { by = λ t n. x.by t n ∙ sym (ap (λ (y : Bool). cond y (c t) (d t)) (sym (w.by t n) ∙ e)) }
+-- What a node's own handler chooses for it.
+unfoldable pub choice : Settings → Tree → Outcome
+choice s t = chosen (handler t.head) s t

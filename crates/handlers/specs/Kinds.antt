@@ -1,190 +1,222 @@
--- The outcome of a node by its kind k, as the code read it.
-use Rattle.std.specs.Prelude.{◌≡◌, Bool, ◌||◌, List, ℕ, ◌≤◌, ◌<◌}
-use Rattle.std.proofs.Math.Path.{refl}
-use Rattle.std.proofs.Common.{sym, ap, subst, ◌∙◌, arith}
-use Rattle.std.proofs.Math.Bool.{true, false, cond}
-use Rattle.std.proofs.Math.Dec.{eqb, leb}
-use borrow.Author.Tests.{le-leb, lt-leb, ne_eqb, eqb-true, leb-true}
-use Rattle.tree.specs.Tree.{Head, Tree, count}
+-- A node of each kind: what its handler chooses, and what that counts on.
+use Rattle.std.specs.Prelude.{◌≡◌, refl, Bool, true, false, cond, ◌||◌, ◌≤◌, eqb, leb, None, is_some}
+use Rattle.std.proofs.Common.{sym, ap, ◌∙◌, eqb-true, leb-true, ne_eqb, true≢false, arith}
+use Rattle.std.proofs.lemmas.Option.{none-some}
+use Rattle.std.proofs.lemmas.Bool.{false_from_ne_true}
+use borrow.Author.Tests.{le-leb}
+use Rattle.tree.specs.Below.{and_both, and_left, and_right}
+use Rattle.tree.specs.Tree.{Tree, count}
 use Rattle.tree.specs.Kind as kind
-use Rattle.tree.specs.Children.{child_count_ok}
+use Rattle.tree.specs.Children.{child_count_ok, node_ok}
 use Rattle.tree.specs.Children as children
-use Rattle.tree.specs.Fields.{head_at}
 use Rattle.tree.specs.Stands.{node_parts}
 use Rattle.rules.specs.Settings.{Settings, derived}
-use Rattle.rules.specs.Handler.{Handler, handler, unary_handler, binary_handler}
+use Rattle.rules.specs.Handler.{Handler, handler, unary_handler, binary_handler, logical_handler}
 use Rattle.rules.specs.Facts.{flagged}
-use Rattle.rules.proofs.Lists.{by_cond}
-use Rattle.handlers.specs.declared.outcome.Outcome.{Outcome}
+use Rattle.fields.specs.Kind.{kind_of, kind_back, known, number_of}
+use Rattle.fields.specs.declared.kind.Kind.{Kind}
+use Rattle.fields.specs.declared.kind.Kind.TheVariants as kinds
 use Rattle.handlers.specs.declared.outcome.Outcome.TheVariants.{Removable, Unchanged, Unwrapped, Rewritten}
-use Rattle.handlers.specs.declared.outcome.Rewrite.TheVariants.{Sequence, Array, Comparison}
-use Rattle.handlers.specs.Outcome.{HandledAs, Handles}
-use Rattle.handlers.specs.Choice.{stays_if, chosen, always, of_typeof, of_addition, of_unary, of_binary, of_call, of_new, of_template, of_object, of_class, of_conditional, Chooses}
+use Rattle.handlers.specs.declared.outcome.Rewrite.TheVariants.{Array, Comparison, Sequence}
+use Rattle.handlers.specs.Outcome.{HandledAs}
+use Rattle.handlers.specs.Choice.{stays_if, chosen, choice, of_typeof, of_addition, of_unary, of_binary, of_call, of_new, of_template, of_object, of_class, of_conditional}
 use Rattle.handlers.specs.Table.{Counted, handled}
 
-module _ {b : List ℕ} {i : ℕ} (s : Settings) (k : ℕ) (ek : k ≡ (head_at b i).kind) where
-  -- By the handler of the kind.
-  handles : (h : Tree → Handler) → ((t : Tree) → t.head.kind ≡ k → handler t.head ≡ h t)
-      → ((t : Tree) → t.head.kind ≡ k → child_count_ok t.head (count t.kids) ≡ true → Counted (h t) t)
-      → (c : Tree → Outcome) → ((t : Tree) → c t ≡ chosen (h t) s t) → {o : Outcome} → Chooses b i c o → Handles b i s o
-  handles h f n c e {o} w = record {
-    by = λ t d y.
-        let x : t.head.kind ≡ k = sym (ek ∙ ap (λ (a : Head). a.kind) d.stands.0) in
-        subst (λ (p : Outcome). HandledAs s t p) (sym (w.by t d ∙ e t))
-        (handled s t (h t) (f t x) (n t x (node_parts t.head t.kids y).counted));
-  }
+module _ (t : Tree) (ok : child_count_ok t.head (count t.kids) ≡ true) where
+  either : (b : Bool) (h g : Handler) → (b ≡ true → Counted h t) → (b ≡ false → Counted g t) → Counted (cond b h g) t
+  either true h g x y = x refl
+  either false h g x y = y refl
 
-  -- A kind that has one handler, whose outcomes count on nothing.
-  plain : (h : Handler) → ((t : Tree) → Counted h t) → ((t : Tree) → t.head.kind ≡ k → handler t.head ≡ h)
-      → {o : Outcome} → Chooses b i (chosen h s) o → Handles b i s o
-  plain h n f w = handles (λ t. h) f (λ t x c. n t) (chosen h s) (λ t. refl) w
+  unary : Counted (unary_handler t.head.sub) t
+  unary = either (eqb t.head.sub 1 || eqb t.head.sub 2) _ _ (λ _. tt) (λ _. either (eqb t.head.sub 3) _ _ (λ _. tt) (λ _. tt))
 
-  pub handles_zero : k ≡ 0 → Handles b i s Unchanged
+  binary : t.head.kind ≡ kind.binary → Counted (binary_handler t.head.sub) t
+  unfolding child_count_ok
+  binary e =
+      let two : eqb (count t.kids) 2 ≡ true = rw e at ok in
+      either (eqb t.head.sub 1) _ _ (λ _. tt)
+      (λ _. either (eqb t.head.sub 2) _ _ (λ a. (e, eqb-true t.head.sub 2 a, eqb-true (count t.kids) 2 two)) (λ _. tt))
+
+  class : t.head.kind ≡ kind.class → Counted Handler.class t
+  unfolding child_count_ok
+  class e = let all : leb (children.heritage t.head) (count t.kids) ≡ true = rw e at ok in (e, leb-true (children.heritage t.head) (count t.kids) all)
+
+  conditional : t.head.kind ≡ kind.conditional → Counted Handler.conditional t
+  unfolding child_count_ok
+  conditional e = let three : eqb (count t.kids) 3 ≡ true = rw e at ok in (e, eqb-true (count t.kids) 3 three)
+
+  -- What its handler counts on is so.
+  counted : Counted (handler t.head) t
+  unfolding handler child_count_ok
+  counted =
+      let k = t.head.kind in
+      either (kind.is_leaf k) _ _ (λ _. tt)
+      (λ _. either (eqb k kind.this) _ _ (λ _. tt)
+      (λ _. either (eqb k kind.array) _ _ (λ _. tt)
+      (λ _. either (eqb k kind.elision) _ _ (λ _. tt)
+      (λ _. either (eqb k kind.spread) _ _ (λ _. tt)
+      (λ _. either (eqb k kind.object) _ _ (λ _. tt)
+      (λ _. either (eqb k kind.property) _ _ (λ _. tt)
+      (λ _. either (eqb k kind.template) _ _ (λ _. tt)
+      (λ _. either (eqb k kind.sequence) _ _ (λ _. tt)
+      (λ _. either (eqb k kind.unary) _ _ (λ _. unary)
+      (λ _. either (eqb k kind.binary) _ _ (λ e. binary (eqb-true k kind.binary e))
+      (λ _. either (eqb k kind.call) _ _ (λ e. let some : leb 1 (count t.kids) ≡ true = rw (eqb-true k kind.call e) at ok in leb-true 1 (count t.kids) some)
+      (λ _. either (eqb k kind.new) _ _ (λ e. let some : leb 1 (count t.kids) ≡ true = rw (eqb-true k kind.new e) at ok in leb-true 1 (count t.kids) some)
+      (λ _. either (eqb k kind.class) _ _ (λ e. class (eqb-true k kind.class e))
+      (λ _. either (eqb k kind.element) _ _ (λ _. tt)
+      (λ _. either (eqb k kind.logical) _ _ (λ _. either (eqb t.head.sub 1) _ _ (λ _. tt) (λ _. tt))
+      (λ _. either (eqb k kind.conditional) _ _ (λ e. conditional (eqb-true k kind.conditional e)) (λ _. tt)))))))))))))))))
+
+-- Its choice is what becomes of a node that passes its tests.
+pub choice_handled : (s : Settings) (t : Tree) → node_ok t.head t.kids ≡ true → HandledAs s t (choice s t)
+unfolding choice
+choice_handled s t ok = handled s t (handler t.head) refl (counted t (node_parts t.head t.kids ok).counted)
+
+-- The choice by a node's kind.
+module _ (s : Settings) (t : Tree) where
+  by_handler : (h : Handler) → handler t.head ≡ h → choice s t ≡ chosen h s t
+  unfolding choice
+  by_handler h e = ap (λ (g : Handler). chosen g s t) e
+
+  pub at_leaf : 1 ≤ t.head.kind → t.head.kind ≤ 5 → choice s t ≡ stays_if (flagged t)
   unfolding handler
-  handles_zero e = plain Handler.left_out (λ t. tt) (λ t x. rw (x ∙ e)) (always Unchanged)
+  at_leaf a b = by_handler Handler.leaf (rw (le-leb 1 t.head.kind a, le-leb t.head.kind 5 b))
 
-  pub handles_leaf : (k ≡ 0 → ⊥) → k ≤ 5 → {o : Outcome} → Chooses b i (λ t. stays_if (flagged t)) o → Handles b i s o
+  pub at_this : t.head.kind ≡ kind.this → choice s t ≡ stays_if (derived s)
   unfolding handler
-  handles_leaf z l w = plain Handler.leaf (λ t. tt) (λ t x. rw (x, le-leb 1 k (omega arith), le-leb k 5 l)) w
+  at_this e = by_handler Handler.this (rw e)
 
-  pub handles_this : k ≡ kind.this → {o : Outcome} → Chooses b i (λ t. stays_if (derived s)) o → Handles b i s o
+  pub at_array : t.head.kind ≡ kind.array → choice s t ≡ Rewritten Array
   unfolding handler
-  handles_this e w = plain Handler.this (λ t. tt) (λ t x. rw (x ∙ e)) w
+  at_array e = by_handler Handler.array (rw e)
 
-  pub handles_array : k ≡ kind.array → Handles b i s (Rewritten Array)
+  pub at_elision : t.head.kind ≡ kind.elision → choice s t ≡ Removable
   unfolding handler
-  handles_array e = plain Handler.array (λ t. tt) (λ t x. rw (x ∙ e)) (always (Rewritten Array))
+  at_elision e = by_handler Handler.elision (rw e)
 
-  pub handles_elision : k ≡ kind.elision → Handles b i s Removable
+  pub at_spread : t.head.kind ≡ kind.spread → choice s t ≡ stays_if (flagged t)
   unfolding handler
-  handles_elision e = plain Handler.elision (λ t. tt) (λ t x. rw (x ∙ e)) (always Removable)
+  at_spread e = by_handler Handler.spread (rw e)
 
-  pub handles_spread : k ≡ kind.spread → {o : Outcome} → Chooses b i (λ t. stays_if (flagged t)) o → Handles b i s o
+  pub at_object : t.head.kind ≡ kind.object → choice s t ≡ of_object t
   unfolding handler
-  handles_spread e w = plain Handler.spread (λ t. tt) (λ t x. rw (x ∙ e)) w
+  at_object e = by_handler Handler.object (rw e)
 
-  pub handles_object : k ≡ kind.object → {o : Outcome} → Chooses b i of_object o → Handles b i s o
+  pub at_property : t.head.kind ≡ kind.property → choice s t ≡ Unwrapped
   unfolding handler
-  handles_object e w = plain Handler.object (λ t. tt) (λ t x. rw (x ∙ e)) w
+  at_property e = by_handler Handler.property (rw e)
 
-  pub handles_property : k ≡ kind.property → Handles b i s Unwrapped
+  pub at_template : t.head.kind ≡ kind.template → choice s t ≡ of_template t
   unfolding handler
-  handles_property e = plain Handler.property (λ t. tt) (λ t x. rw (x ∙ e)) (always Unwrapped)
+  at_template e = by_handler Handler.template (rw e)
 
-  pub handles_template : k ≡ kind.template → {o : Outcome} → Chooses b i of_template o → Handles b i s o
+  pub at_sequence : t.head.kind ≡ kind.sequence → choice s t ≡ Rewritten Sequence
   unfolding handler
-  handles_template e w = plain Handler.template (λ t. tt) (λ t x. rw (x ∙ e)) w
+  at_sequence e = by_handler Handler.sequence (rw e)
 
-  pub handles_sequence : k ≡ kind.sequence → Handles b i s (Rewritten Sequence)
+  pub at_unary : t.head.kind ≡ kind.unary → choice s t ≡ of_unary t
   unfolding handler
-  handles_sequence e = plain Handler.sequence (λ t. tt) (λ t x. rw (x ∙ e)) (always (Rewritten Sequence))
-
-  pub handles_unary : k ≡ kind.unary → {o : Outcome} → Chooses b i of_unary o → Handles b i s o
-  unfolding handler
-  handles_unary e w =
-      handles (λ t. unary_handler t.head.sub) (λ t x. rw (x ∙ e))
-      (λ t x c. counted t (eqb t.head.sub 1) (eqb t.head.sub 2) (eqb t.head.sub 3)) of_unary
-      (λ t. same t (eqb t.head.sub 1) (eqb t.head.sub 2) (eqb t.head.sub 3)) w
+  at_unary e = by_handler (unary_handler t.head.sub) (rw e) ∙ go (eqb t.head.sub 1) (eqb t.head.sub 2) (eqb t.head.sub 3)
     where
-      counted : (t : Tree) (x y z : Bool) → Counted (cond (x || y) Handler.void_or_not (cond z Handler.typeof Handler.other_unary)) t
-      counted t true y z = tt
-      counted t false true z = tt
-      counted t false false true = tt
-      counted t false false false = tt
+      go : (x y z : Bool) → chosen (cond (x || y) Handler.void_or_not (cond z Handler.typeof Handler.other_unary)) s t
+          ≡ cond x Unwrapped (cond y Unwrapped (cond z (of_typeof t) (stays_if (flagged t))))
+      go true y z = refl
+      go false true z = refl
+      go false false true = refl
+      go false false false = refl
 
-      same : (t : Tree) (x y z : Bool)
-          → cond x Unwrapped (cond y Unwrapped (cond z (of_typeof t) (stays_if (flagged t))))
-          ≡ chosen (cond (x || y) Handler.void_or_not (cond z Handler.typeof Handler.other_unary)) s t
-      same t true y z = refl
-      same t false true z = refl
-      same t false false true = refl
-      same t false false false = refl
-
-  pub handles_binary : k ≡ kind.binary → {o : Outcome} → Chooses b i of_binary o → Handles b i s o
-  unfolding handler child_count_ok
-  handles_binary e w =
-      handles (λ t. binary_handler t.head.sub) (λ t x. rw (x ∙ e))
-      (λ t x c.
-      let d : eqb (count t.kids) 2 ≡ true = rw (x ∙ e) at c in
-      by_cond (λ (h : Handler). Counted h t) (eqb t.head.sub 1) Handler.comparison (cond (eqb t.head.sub 2) Handler.addition Handler.other_binary) (λ _. tt)
-      (λ _. by_cond (λ (h : Handler). Counted h t) (eqb t.head.sub 2) Handler.addition Handler.other_binary
-      (λ y. (x ∙ e, eqb-true t.head.sub 2 y, eqb-true (count t.kids) 2 d)) (λ _. tt)))
-      of_binary
-      (λ t. same t (eqb t.head.sub 1) (eqb t.head.sub 2)) w
-    where
-      same : (t : Tree) (x y : Bool)
-          → cond x (Rewritten Comparison) (cond y (of_addition t) (stays_if (flagged t)))
-          ≡ chosen (cond x Handler.comparison (cond y Handler.addition Handler.other_binary)) s t
-      same t true y = refl
-      same t false true = refl
-      same t false false = refl
-
-  pub handles_call : k ≡ kind.call → {o : Outcome} → Chooses b i (of_call s) o → Handles b i s o
-  unfolding handler child_count_ok
-  handles_call e w =
-      handles (λ t. Handler.call) (λ t x. rw (x ∙ e))
-      (λ t x c. let d : leb 1 (count t.kids) ≡ true = rw (x ∙ e) at c in leb-true 1 (count t.kids) d) (of_call s) (λ t. refl) w
-
-  pub handles_new : k ≡ kind.new → {o : Outcome} → Chooses b i (of_new s) o → Handles b i s o
-  unfolding handler child_count_ok
-  handles_new e w =
-      handles (λ t. Handler.new) (λ t x. rw (x ∙ e))
-      (λ t x c. let d : leb 1 (count t.kids) ≡ true = rw (x ∙ e) at c in leb-true 1 (count t.kids) d) (of_new s) (λ t. refl) w
-
-  pub handles_class : k ≡ kind.class → {o : Outcome} → Chooses b i of_class o → Handles b i s o
-  unfolding handler child_count_ok
-  handles_class e w =
-      handles (λ t. Handler.class) (λ t x. rw (x ∙ e))
-      (λ t x c.
-      let d : leb (children.heritage t.head) (count t.kids) ≡ true = rw (x ∙ e) at c in
-      (x ∙ e, leb-true (children.heritage t.head) (count t.kids) d))
-      of_class (λ t. refl) w
-
-  pub handles_conditional : k ≡ kind.conditional → {o : Outcome} → Chooses b i of_conditional o → Handles b i s o
-  unfolding handler child_count_ok
-  handles_conditional e w =
-      handles (λ t. Handler.conditional) (λ t x. rw (x ∙ e))
-      (λ t x c. let d : eqb (count t.kids) 3 ≡ true = rw (x ∙ e) at c in (x ∙ e, eqb-true (count t.kids) 3 d)) of_conditional (λ t. refl) w
-
-  -- Elements, logical nodes, and the kinds whose handlers are left out.
-  pub handles_other : 5 < k → (k ≡ kind.this → ⊥) → (k ≡ kind.array → ⊥) → (k ≡ kind.elision → ⊥) → (k ≡ kind.spread → ⊥)
-      → (k ≡ kind.object → ⊥) → (k ≡ kind.property → ⊥) → (k ≡ kind.template → ⊥) → (k ≡ kind.sequence → ⊥) → (k ≡ kind.unary → ⊥)
-      → (k ≡ kind.binary → ⊥) → (k ≡ kind.call → ⊥) → (k ≡ kind.new → ⊥) → (k ≡ kind.class → ⊥) → (k ≡ kind.conditional → ⊥) → Handles b i s Unchanged
+  pub at_binary : t.head.kind ≡ kind.binary → choice s t ≡ of_binary t
   unfolding handler
-  handles_other l a c d e f g h j m n p q r u =
-      handles other
-      (λ t x. rw (
-        x,
-        le-leb 1 k (omega arith),
-        lt-leb k 5 l,
-        ne_eqb k kind.this a,
-        ne_eqb k kind.array c,
-        ne_eqb k kind.elision d,
-        ne_eqb k kind.spread e,
-        ne_eqb k kind.object f,
-        ne_eqb k kind.property g,
-        ne_eqb k kind.template h,
-        ne_eqb k kind.sequence j,
-        ne_eqb k kind.unary m,
-        ne_eqb k kind.binary n,
-        ne_eqb k kind.call p,
-        ne_eqb k kind.new q,
-        ne_eqb k kind.class r,
-        ne_eqb k kind.conditional u,
-      ))
-      (λ t x y. by_other t (λ (h : Handler). Counted h t) tt tt tt tt)
-      (λ t. Unchanged)
-      (λ t. by_other t (λ (h : Handler). Unchanged ≡ chosen h s t) refl refl refl refl)
-      (always Unchanged)
+  at_binary e = by_handler (binary_handler t.head.sub) (rw e) ∙ go (eqb t.head.sub 1) (eqb t.head.sub 2)
     where
-      logical : Tree → Handler
-      logical t = cond (eqb t.head.sub 1) Handler.logical_and Handler.logical_or
+      go : (x y : Bool) → chosen (cond x Handler.comparison (cond y Handler.addition Handler.other_binary)) s t
+          ≡ cond x (Rewritten Comparison) (cond y (of_addition t) (stays_if (flagged t)))
+      go true y = refl
+      go false true = refl
+      go false false = refl
 
-      other : Tree → Handler
-      other t = cond (eqb k kind.element) Handler.element (cond (eqb k kind.logical) (logical t) Handler.left_out)
+  pub at_call : t.head.kind ≡ kind.call → choice s t ≡ of_call s t
+  unfolding handler
+  at_call e = by_handler Handler.call (rw e)
 
-      by_other : (t : Tree) (P : Handler → Type 0) → P Handler.element → P Handler.logical_and → P Handler.logical_or → P Handler.left_out → P (other t)
-      by_other t P w x y z =
-          by_cond P (eqb k kind.element) Handler.element (cond (eqb k kind.logical) (logical t) Handler.left_out) (λ _. w)
-          (λ _. by_cond P (eqb k kind.logical) (logical t) Handler.left_out
-          (λ _. by_cond P (eqb t.head.sub 1) Handler.logical_and Handler.logical_or (λ _. x) (λ _. y)) (λ _. z))
+  pub at_new : t.head.kind ≡ kind.new → choice s t ≡ of_new s t
+  unfolding handler
+  at_new e = by_handler Handler.new (rw e)
+
+  pub at_class : t.head.kind ≡ kind.class → choice s t ≡ of_class t
+  unfolding handler
+  at_class e = by_handler Handler.class (rw e)
+
+  pub at_element : t.head.kind ≡ kind.element → choice s t ≡ Unchanged
+  unfolding handler
+  at_element e = by_handler Handler.element (rw e)
+
+  pub at_logical : t.head.kind ≡ kind.logical → choice s t ≡ Unchanged
+  unfolding handler
+  at_logical e = by_handler (logical_handler t.head.sub) (rw e) ∙ go (eqb t.head.sub 1)
+    where
+      go : (x : Bool) → chosen (cond x Handler.logical_and Handler.logical_or) s t ≡ Unchanged
+      go true = refl
+      go false = refl
+
+  pub at_conditional : t.head.kind ≡ kind.conditional → choice s t ≡ of_conditional t
+  unfolding handler
+  at_conditional e = by_handler Handler.conditional (rw e)
+
+  pub at_assignment : t.head.kind ≡ kind.assignment → choice s t ≡ Unchanged
+  unfolding handler
+  at_assignment e = by_handler Handler.left_out (rw e)
+
+  pub at_no_kind : kind_of t.head.kind ≡ None → choice s t ≡ Unchanged
+  unfolding handler
+  at_no_kind e = by_handler Handler.left_out (rw (
+    no_leaf,
+    none kinds.This,
+    none kinds.Array,
+    none kinds.Elision,
+    none kinds.Spread,
+    none kinds.Object,
+    none kinds.Property,
+    none kinds.Template,
+    none kinds.Sequence,
+    none kinds.Unary,
+    none kinds.Binary,
+    none kinds.Call,
+    none kinds.New,
+    none kinds.Class,
+    none kinds.Element,
+    none kinds.Logical,
+    none kinds.Conditional,
+  ))
+    where
+      none : (k : Kind) → eqb t.head.kind (number_of k) ≡ false
+      none k = ne_eqb t.head.kind (number_of k) (λ x. none-some k (sym e ∙ ap kind_of x ∙ kind_back k))
+
+      no_leaf : kind.is_leaf t.head.kind ≡ false
+      no_leaf = false_from_ne_true (kind.is_leaf t.head.kind) (λ x.
+          let a = leb-true 1 t.head.kind (and_left (leb 1 t.head.kind) (leb t.head.kind 5) x) in
+          let b = leb-true t.head.kind 5 (and_right (leb 1 t.head.kind) (leb t.head.kind 5) x) in
+          true≢false (sym (and_both (le-leb 1 t.head.kind a) (le-leb t.head.kind 22 (omega arith))) ∙ sym (known t.head.kind) ∙ ap is_some e))
+
+pub ruleset choices = (
+  at_leaf,
+  at_this,
+  at_array,
+  at_elision,
+  at_spread,
+  at_object,
+  at_property,
+  at_template,
+  at_sequence,
+  at_unary,
+  at_binary,
+  at_call,
+  at_new,
+  at_class,
+  at_element,
+  at_logical,
+  at_conditional,
+  at_assignment,
+  at_no_kind,
+)

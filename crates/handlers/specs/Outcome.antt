@@ -1,8 +1,7 @@
 -- What each outcome of a handler leaves of a node.
-use Rattle.std.specs.Prelude.{◌≡◌, true, cond, not, List, [], ◌∷◌, map, ℕ, ◌≤◌, drop}
+use Rattle.std.specs.Prelude.{◌≡◌, cond, not, List, [], ◌∷◌, map, ◌≤◌, drop}
 use Rattle.tree.specs.Tree.{Tree, trees, count}
 use Rattle.tree.specs.Kind as kind
-use Rattle.tree.specs.Children.{node_ok}
 use Rattle.tree.specs.Children as children
 use Rattle.rules.specs.Lists.{any, keep_if, concat_map}
 use Rattle.rules.specs.Settings.{Settings}
@@ -13,7 +12,6 @@ use Rattle.rules.specs.Class.{extracted}
 use Rattle.rules.specs.Conditional.{test, consequent_of, alternate_of}
 use Rattle.rules.specs.Reduce.{reduce, none_one_several, stays_with, transform_template, transform_object, join_kept, fold_arguments_into_needed_expressions, sequence_if_any, join_arms}
 use Rattle.rules.specs.Results.{reduced}
-use Rattle.readings.specs.Node.{Node}
 use Rattle.handlers.specs.declared.outcome.Outcome.{Outcome}
 use Rattle.handlers.specs.declared.outcome.Outcome.TheVariants.{Removable, Unchanged, Unwrapped, Rewritten, Arguments, Addition, Class, Conditional}
 use Rattle.handlers.specs.declared.outcome.Rewrite.{Rewrite}
@@ -57,7 +55,3 @@ HasChildren Conditional t = (t.head.kind ≡ kind.conditional) × (count t.kids 
 pub record HandledAs (s : Settings) (t : Tree) (o : Outcome) : Type 0 where
   pub is : reduce s t ≡ outcome o s t
   pub has : HasChildren o t
-
--- o is the outcome of the tree that stands at record i.
-pub record Handles (b : List ℕ) (i : ℕ) (s : Settings) (o : Outcome) : Type 0 where
-  pub by : (t : Tree) → Node b i t → node_ok t.head t.kids ≡ true → HandledAs s t o

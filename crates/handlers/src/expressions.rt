@@ -1,106 +1,101 @@
 // The handlers whose outcome hangs on more than a node's kind, by the Rust's names.
-ghost use Rattle.readings.specs.Node.{SomeNode, settings_with};
-ghost use Rattle.handlers.specs.Choice.{Chooses, of_unary, of_binary, of_call, of_new, of_template, of_object, of_class, of_conditional};
+ghost use Rattle.std.specs.Prelude.{◌≡◌};
+ghost use Rattle.readings.specs.Given.{given};
+ghost use Rattle.readings.specs.View.{tree};
+ghost use Rattle.handlers.specs.Choice.{of_unary, of_binary, of_call, of_new, of_template, of_object, of_class, of_conditional};
 
-use crate::outcome;
 use crate::outcome::{Outcome, Rewrite};
+use readings::{Node, Settings};
 
-#[tactic(auto, using(crate::proofs::Flagged::flagged_there))]
-pub fn remove_unused_unary_expr(src: &[u8], at: usize) -> Outcome
-    requires { SomeNode src.now at }
-    ensures { Chooses src.now at of_unary result }
+// The subs of a unary, and of a binary.
+const VOID: u8 = 1;
+
+const NOT: u8 = 2;
+
+const TYPEOF: u8 = 3;
+
+const COMPARISON: u8 = 1;
+
+const ADDITION: u8 = 2;
+
+pub fn remove_unused_unary_expr(node: Node) -> Outcome
+    ensures { result ≡ of_unary (tree node.entry) }
 {
-    let sub = fields::sub_at(src, at);
-    if sub == 1 {
-        return Outcome::Unwrapped;
+    match node.record.sub() {
+        VOID | NOT => Outcome::Unwrapped,
+        TYPEOF if node.of_identifier() => Outcome::Removable,
+        TYPEOF => Outcome::Unwrapped,
+        _ => Outcome::stays_if(node.is_flagged()),
     }
-    if sub == 2 {
-        return Outcome::Unwrapped;
-    }
-    if sub == 3 {
-        if readings::of_identifier(src, at) {
-            return Outcome::Removable;
-        }
-        return Outcome::Unwrapped;
-    }
-    outcome::stays_if(readings::flagged_at(src, at))
 }
 
-#[tactic(auto, using(crate::proofs::Flagged::flagged_there))]
-pub fn remove_unused_binary_expr(src: &[u8], at: usize) -> Outcome
-    requires { SomeNode src.now at }
-    ensures { Chooses src.now at of_binary result }
+pub fn remove_unused_binary_expr(node: Node) -> Outcome
+    ensures { result ≡ of_binary (tree node.entry) }
 {
-    let sub = fields::sub_at(src, at);
-    if sub == 1 {
-        return Outcome::Rewritten(Rewrite::Comparison);
+    match node.record.sub() {
+        COMPARISON => Outcome::Rewritten(Rewrite::Comparison),
+        ADDITION if node.is_flagged() => Outcome::Addition,
+        ADDITION => Outcome::Removable,
+        _ => Outcome::stays_if(node.is_flagged()),
     }
-    if sub == 2 {
-        if readings::flagged_at(src, at) {
-            return Outcome::Addition;
-        }
-        return Outcome::Removable;
-    }
-    outcome::stays_if(readings::flagged_at(src, at))
 }
 
-pub fn remove_unused_call_expr(src: &[u8], at: usize, settings: u8) -> Outcome
-    requires { SomeNode src.now at }
-    ensures { Chooses src.now at (of_call (settings_with settings)) result }
+pub fn remove_unused_call_expr(node: Node, settings: Settings) -> Outcome
+    ensures { result ≡ of_call (given settings.entry) (tree node.entry) }
 {
-    if readings::pure_call(src, at, settings) {
-        return Outcome::Arguments;
+    if node.pure_call(settings) {
+        Outcome::Arguments
+    } else {
+        Outcome::stays_if(node.has_side_effects_or_preserved_iife(settings))
     }
-    outcome::stays_if(readings::has_side_effects_or_preserved_iife(src, at, settings))
 }
 
-pub fn remove_unused_new_expr(src: &[u8], at: usize, settings: u8) -> Outcome
-    requires { SomeNode src.now at }
-    ensures { Chooses src.now at (of_new (settings_with settings)) result }
+pub fn remove_unused_new_expr(node: Node, settings: Settings) -> Outcome
+    ensures { result ≡ of_new (given settings.entry) (tree node.entry) }
 {
-    if readings::pure_new(src, at, settings) {
-        return Outcome::Arguments;
+    if node.pure_new(settings) {
+        Outcome::Arguments
+    } else {
+        Outcome::Unchanged
     }
-    Outcome::Unchanged
 }
 
-pub fn remove_unused_template_literal(src: &[u8], at: usize) -> Outcome
-    requires { SomeNode src.now at }
-    ensures { Chooses src.now at of_template result }
+pub fn remove_unused_template_literal(node: Node) -> Outcome
+    ensures { result ≡ of_template (tree node.entry) }
 {
-    if readings::unchanged_template(src, at) {
-        return Outcome::Unchanged;
+    if node.unchanged_template() {
+        Outcome::Unchanged
+    } else {
+        Outcome::Rewritten(Rewrite::Template)
     }
-    Outcome::Rewritten(Rewrite::Template)
 }
 
-pub fn remove_unused_object_expr(src: &[u8], at: usize) -> Outcome
-    requires { SomeNode src.now at }
-    ensures { Chooses src.now at of_object result }
+pub fn remove_unused_object_expr(node: Node) -> Outcome
+    ensures { result ≡ of_object (tree node.entry) }
 {
-    if readings::only_spreads(src, at) {
-        return outcome::stays_if(readings::flagged_child(src, at));
+    if node.only_spreads() {
+        Outcome::stays_if(node.flagged_child())
+    } else {
+        Outcome::Rewritten(Rewrite::Object)
     }
-    Outcome::Rewritten(Rewrite::Object)
 }
 
-pub fn remove_unused_class_expr(src: &[u8], at: usize) -> Outcome
-    requires { SomeNode src.now at }
-    ensures { Chooses src.now at of_class result }
+pub fn remove_unused_class_expr(node: Node) -> Outcome
+    ensures { result ≡ of_class (tree node.entry) }
 {
-    if readings::classify_class_removability(src, at) {
-        return Outcome::Unchanged;
+    if node.classify_class_removability() {
+        Outcome::Unchanged
+    } else {
+        Outcome::Class
     }
-    Outcome::Class
 }
 
-#[tactic(auto, using(crate::proofs::Flagged::flagged_there))]
-pub fn remove_unused_conditional_expr(src: &[u8], at: usize) -> Outcome
-    requires { SomeNode src.now at }
-    ensures { Chooses src.now at of_conditional result }
+pub fn remove_unused_conditional_expr(node: Node) -> Outcome
+    ensures { result ≡ of_conditional (tree node.entry) }
 {
-    if readings::flagged_at(src, at) {
-        return Outcome::Conditional;
+    if node.is_flagged() {
+        Outcome::Conditional
+    } else {
+        Outcome::Removable
     }
-    Outcome::Removable
 }

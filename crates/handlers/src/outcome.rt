@@ -3,7 +3,7 @@ ghost use Rattle.std.specs.Prelude.{◌≡◌};
 ghost use Rattle.handlers.specs.Choice.{stays_if};
 
 // What is made of the list of what is left of a node's children.
-#[derive(Drop)]
+#[derive(Clone, Copy)]
 pub enum Rewrite {
     Sequence,
     Array,
@@ -12,7 +12,7 @@ pub enum Rewrite {
     Comparison,
 }
 
-#[derive(Drop)]
+#[derive(Clone, Copy)]
 pub enum Outcome {
     Removable,
     Unchanged,
@@ -29,11 +29,14 @@ pub enum Outcome {
     Conditional,
 }
 
-pub fn stays_if(when: bool) -> Outcome
-    ensures { result ≡ stays_if when }
-{
-    if when {
-        return Outcome::Unchanged;
+impl Outcome {
+    pub fn stays_if(when: bool) -> Self
+        ensures { result ≡ stays_if when }
+    {
+        if when {
+            Outcome::Unchanged
+        } else {
+            Outcome::Removable
+        }
     }
-    Outcome::Removable
 }

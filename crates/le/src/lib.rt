@@ -1,42 +1,42 @@
 // Little-endian fields of a byte slice.
 #![tactic(auto)]
 
-ghost use Rattle.std.specs.Prelude.{◌≡◌, ◌+◌, ◌<◌, length, get_or};
+ghost use Rattle.std.specs.Prelude.{◌≡◌, ◌+◌, ◌<◌, length};
 ghost use Rattle.le.specs.Le.{u16_at, u32_at, set16, set32};
 
-pub fn byte(s: &[u8], p: usize) -> usize
-    requires { p < length s.now }
-    ensures { (result ≡ get_or s.now p 0) × (result < 256) }
-{
-    s[p] as usize
-}
-
-pub fn get16(s: &[u8], p: usize) -> usize
+#[tactic(auto, unfolding(crate::specs::Le::u16_at))]
+pub fn get16(s: &[u8], p: usize) -> u16
     requires { p + 1 < length s.now }
-    ensures { (result ≡ u16_at s.now p) × (result < 65536) }
+    ensures { result ≡ u16_at s.now p }
 {
-    byte(s, p) + 256 * byte(s, p + 1)
+    u16::from_le_bytes([s[p], s[p + 1]])
 }
 
-pub fn get32(s: &[u8], p: usize) -> usize
+#[tactic(auto, unfolding(crate::specs::Le::u16_at, crate::specs::Le::u32_at))]
+pub fn get32(s: &[u8], p: usize) -> u32
     requires { p + 3 < length s.now }
-    ensures { (result ≡ u32_at s.now p) × (result < 4294967296) }
+    ensures { result ≡ u32_at s.now p }
 {
-    get16(s, p) + 65536 * get16(s, p + 2)
+    u32::from_le_bytes([s[p], s[p + 1], s[p + 2], s[p + 3]])
 }
 
-pub fn put16(s: &mut [u8], p: usize, v: usize)
-    requires { (p + 1 < length s.old) × (v < 65536) }
+#[tactic(auto, unfolding(crate::specs::Le::set16))]
+pub fn put16(s: &mut [u8], p: usize, v: u16)
+    requires { p + 1 < length s.old }
     ensures { s.new ≡ set16 s.old p v }
 {
-    s[p] = (v % 256) as u8;
-    s[p + 1] = (v / 256) as u8;
+    let [low, high] = v.to_le_bytes();
+    s[p] = low;
+    s[p + 1] = high;
 }
 
-pub fn put32(s: &mut [u8], p: usize, v: usize)
-    requires { (p + 3 < length s.old) × (v < 4294967296) }
+pub fn put32(s: &mut [u8], p: usize, v: u32)
+    requires { p + 3 < length s.old }
     ensures { s.new ≡ set32 s.old p v }
 {
-    put16(s, p, v % 65536);
-    put16(s, p + 2, v / 65536);
+    let [first, second, third, fourth] = v.to_le_bytes();
+    s[p] = first;
+    s[p + 1] = second;
+    s[p + 2] = third;
+    s[p + 3] = fourth;
 }

@@ -1,6 +1,7 @@
 -- What copying, moving and making records leaves of a buffer's bytes.
 use Rattle.std.specs.Prelude.{◌≡◌, refl, ◌≢◌, ◌⊎◌, List, ℕ, ◌+◌, ◌-◌, ◌<◌, ◌≤◌, length, get_or, set}
-use Rattle.std.proofs.Common.{ap, ◌∙◌, inl, inr, ⊎_elim, arith, eq-or-lt_of_le, length-set, get_or-set_same, get_or-set_other}
+use Rattle.std.proofs.Common.{◌∙◌, inl, inr, arith, length-set, get_or-set_same, get_or-set_other}
+use Rattle.std.specs.List.{CopiedTo, SameBelow, SameFrom}
 use Rattle.le.specs.Le.{u16_at, u32_at, set16, set32}
 use Rattle.le.specs.Laws.{u16_same, u32_same, u16_set16, u32_set32, get_d_set16_other, get_d_set32_other, length_set16}
 use Rattle.tree.specs.Tree.{Place}
@@ -104,66 +105,23 @@ head_same v {s} {s'} i j e e' w a b =
     let p = place_copied v (start v i) (start v j) b in
     rw (e, e') (λ x. record { kind = k x; facts = f x; sub = u x; reserved = r x; text = t x; place = p x })
 
--- The copy, a byte at a time.
-pub moved_none : (s : List ℕ) (p : ℕ) (old : List ℕ) (q : ℕ) → Moved s p 0 old old q
-moved_none s p old q = record {
-  there = record { same = λ k l. absurd (omega arith) };
-  below = agree_all old q;
-  above = record { same = λ k l. refl };
+-- What `copy_within` says: n bytes of the buffer itself were copied.
+pub moved_within : {old new : List ℕ} {from to n : ℕ} → CopiedTo old new from to n × SameBelow old new to × SameFrom old new (to + n) → Moved old from n old new to
+moved_within {from = from} {to = to} m = record {
+  there = record { same = λ k l. let e : from + (to + k - to) ≡ from + k = omega arith in rw (← e) (m.0 (to + k) 0 (omega arith) (omega arith)) };
+  below = record { same = λ k l. m.1 k 0 l };
+  above = record { same = λ k l. m.2 k 0 l };
 }
 
-pub moved_more : {s : List ℕ} {p i : ℕ} {old out : List ℕ} {q : ℕ} → Moved s p i old out q → q + i < length out → Moved s p (i + 1) old (set out (q + i) (get_or s (p + i) 0)) q
-moved_more {s} {p} {i} {old} {out} {q} m h = record {
-  there = record {
-    same = λ k l.
-        ⊎_elim (λ (e : k ≡ i). rw e (get_or-set_same out (q + i) _ 0 h))
-        (λ (e : k < i). let n : q + k ≢ q + i = omega arith in rw get_or-set_other (m.there.same k e)) (eq-or-lt_of_le (omega arith));
-  };
-  below = record { same = λ k l. let n : k ≢ q + i = omega arith in rw get_or-set_other (m.below.same k l) };
-  above = record { same = λ k l. let n : k ≢ q + i = omega arith in rw get_or-set_other (m.above.same k (omega arith)) };
-}
-
--- The move down by w, a byte at a time: those up to byte q of the buffer have been moved.
-pub record Shifting (old new : List ℕ) (to q w : ℕ) : Type 0 where
-  pub shifted : Moved old (to + w) (q - to) old new to
-  pub ahead : to ≤ q
-
-pub shifting_none : (old : List ℕ) (to w : ℕ) → Shifting old old to to w
-shifting_none old to w = record {
-  shifted = record { there = record { same = λ k l. absurd (omega arith) }; below = agree_all old to; above = record { same = λ k l. refl } };
-  ahead = omega arith;
-}
-
-pub shifting_more : {old new : List ℕ} {to q w : ℕ} → Shifting old new to q w → q < length new → Shifting old (set new q (get_or new (q + w) 0)) to (q + 1) w
-shifting_more {old} {new} {to} {q} {w} m h =
-    let a = m.ahead in
-    let there : (k : ℕ) → k < q + 1 - to → get_or (set new q (get_or new (q + w) 0)) (to + k) 0 ≡ get_or old (to + w + k) 0 =
-    λ k l.
-    ⊎_elim (λ (e : k ≡ q - to).
-    let x : to + k ≡ q = omega arith in
-    let y : q + w ≡ to + w + k = omega arith in
-    rw x (get_or-set_same new q _ 0 h ∙ m.shifted.above.same (q + w) (omega arith) ∙ ap (λ (j : ℕ). get_or old j 0) y))
-    (λ (e : k < q - to). let n : to + k ≢ q = omega arith in rw get_or-set_other (m.shifted.there.same k e)) (eq-or-lt_of_le (omega arith)) in
+pub patched : {old mid new : List ℕ} {n z : ℕ} → mid ≡ set16 old offset.children n → new ≡ set16 mid offset.subtree z → offset.end ≤ length old → Patched old new n z
+patched {old} {mid} {new} {n} {z} e f h =
+    let o : (k : ℕ) → k ≢ 6 → k ≢ 7 → get_or new k 0 ≡ get_or mid k 0 = λ k a b. rw (f, get_d_set16_other mid 6 z k a b) in
+    let p : (k : ℕ) → k ≢ 4 → k ≢ 5 → get_or mid k 0 ≡ get_or old k 0 = λ k a b. rw (e, get_d_set16_other old 4 n k a b) in
     record {
-      shifted = record {
-        there = record { same = there };
-        below = record { same = λ k l. let n : k ≢ q = omega arith in rw get_or-set_other (m.shifted.below.same k l) };
-        above = record { same = λ k l. let n : k ≢ q = omega arith in rw get_or-set_other (m.shifted.above.same k (omega arith)) };
-      };
-      ahead = omega arith;
-    }
-
-pub patched : {old new : List ℕ} {n z : ℕ} → new ≡ set16 (set16 old offset.children n) offset.subtree z → offset.end ≤ length old → Patched old new n z
-patched {old} {new} {n} {z} e h =
-    let o : (k : ℕ) → k ≢ 4 → k ≢ 5 → k ≢ 6 → k ≢ 7 → get_or new k 0 ≡ get_or old k 0 = λ k a b c d. rw (e, get_d_set16_other (set16 old 4 n) 6 z k c d, get_d_set16_other old 4 n k a b) in
-    record {
-      children =
-          rw e
-          (u16_same (set16 old 4 n) (set16 (set16 old 4 n) 6 z) 4 4 (get_d_set16_other _ 6 z 4 (omega arith) (omega arith)) (get_d_set16_other _ 6 z 5 (omega arith) (omega arith))
-          ∙ u16_set16 old 4 n (omega arith));
-      subtree = rw e (u16_set16 (set16 old 4 n) 6 z (rw length_set16 (omega arith)));
-      below = record { same = λ k l. o k (omega arith) (omega arith) (omega arith) (omega arith) };
-      above = record { same = λ k l. o k (omega arith) (omega arith) (omega arith) (omega arith) };
+      children = u16_same mid new 4 4 (o 4 (omega arith) (omega arith)) (o 5 (omega arith) (omega arith)) ∙ rw e (u16_set16 old 4 n (omega arith));
+      subtree = rw f (u16_set16 mid 6 z (rw e (rw length_set16 (omega arith))));
+      below = record { same = λ k l. o k (omega arith) (omega arith) ∙ p k (omega arith) (omega arith) };
+      above = record { same = λ k l. o k (omega arith) (omega arith) ∙ p k (omega arith) (omega arith) };
     }
 
 -- The start, and behind it the end where the version has one.
@@ -197,7 +155,6 @@ pub made_of : (v : Version) {old a b c d new : List ℕ} {kind sub facts : ℕ} 
     → a ≡ set (set (set (set old offset.kind kind) offset.facts facts) offset.sub sub) offset.reserved 0 → b ≡ set16 a offset.children n
     → c ≡ set16 b offset.subtree z → d ≡ set32 c offset.text 0 → Placed v d new place → width v ≤ length old → Made v old new kind sub facts place n z
 made_of v {old} {a} {b} {c} {d} {new} {kind} {sub} {facts} {place} {n} {z} w ea eb ec ed en h =
-    let la : length a ≡ length old = rw ea (simp length-set) in
     let lb : length b ≡ length a = rw eb (length_set16 a 4 n) in
     let lc : length c ≡ length b = rw ec (length_set16 b 6 z) in
     let d_c : (k : ℕ) → (k < 8) ⊎ (12 ≤ k) → get_or d k 0 ≡ get_or c k 0 = λ k o. rw ed (get_d_set32_other c 8 0 k o) in
@@ -206,34 +163,19 @@ made_of v {old} {a} {b} {c} {d} {new} {kind} {sub} {facts} {place} {n} {z} w ea 
     let n_d : (k : ℕ) → k < 12 → get_or new k 0 ≡ get_or d k 0 = en.below.same in
     let n_c : (k : ℕ) → k < 8 → get_or new k 0 ≡ get_or c k 0 = λ k l. n_d k (omega arith) ∙ d_c k (inl l) in
     let low : (k : ℕ) → k < 4 → get_or new k 0 ≡ get_or a k 0 = λ k l. n_c k (omega arith) ∙ c_b k (omega arith) (omega arith) ∙ b_a k (omega arith) (omega arith) in
-    let s1 : List ℕ = set old 0 kind in
-    let s2 : List ℕ = set s1 1 facts in
-    let s3 : List ℕ = set s2 2 sub in
-    let l1 : length s1 ≡ length old = length-set old 0 kind in
-    let l2 : length s2 ≡ length s1 = length-set s1 1 facts in
-    let l3 : length s3 ≡ length s2 = length-set s2 2 sub in
     record {
-      kind_is =
-          low 0 (omega arith)
-          ∙ rw ea
-          (get_or-set_other s3 3 0 0 0 (omega arith) ∙ get_or-set_other s2 2 0 sub 0 (omega arith) ∙ get_or-set_other s1 1 0 facts 0 (omega arith) ∙ get_or-set_same old 0 kind 0 (omega arith));
-      facts_is = low 1 (omega arith) ∙ rw ea (get_or-set_other s3 3 1 0 0 (omega arith) ∙ get_or-set_other s2 2 1 sub 0 (omega arith) ∙ get_or-set_same s1 1 facts 0 (omega arith));
-      sub_is = low 2 (omega arith) ∙ rw ea (get_or-set_other s3 3 2 0 0 (omega arith) ∙ get_or-set_same s2 2 sub 0 (omega arith));
-      reserved_is = low 3 (omega arith) ∙ rw ea (get_or-set_same s3 3 0 0 (omega arith));
+      kind_is = low 0 (omega arith) ∙ rw ea (grind (arith, get_or-set_same, get_or-set_other, length-set));
+      facts_is = low 1 (omega arith) ∙ rw ea (grind (arith, get_or-set_same, get_or-set_other, length-set));
+      sub_is = low 2 (omega arith) ∙ rw ea (grind (arith, get_or-set_same, get_or-set_other, length-set));
+      reserved_is = low 3 (omega arith) ∙ rw ea (grind (arith, get_or-set_same, get_or-set_other, length-set));
       children =
-          u16_same b new 4 4 (n_c 4 (omega arith) ∙ c_b 4 (omega arith) (omega arith)) (n_c 5 (omega arith) ∙ c_b 5 (omega arith) (omega arith)) ∙ rw eb (u16_set16 a 4 n (omega arith));
-      subtree = u16_same c new 6 6 (n_c 6 (omega arith)) (n_c 7 (omega arith)) ∙ rw ec (u16_set16 b 6 z (omega arith));
+          u16_same b new 4 4 (n_c 4 (omega arith) ∙ c_b 4 (omega arith) (omega arith)) (n_c 5 (omega arith) ∙ c_b 5 (omega arith) (omega arith)) ∙ rw eb (u16_set16 a 4 n (rw ea (grind (arith, get_or-set_same, get_or-set_other, length-set))));
+      subtree = u16_same c new 6 6 (n_c 6 (omega arith)) (n_c 7 (omega arith)) ∙ rw ec (u16_set16 b 6 z (rw (lb, ea) (grind (arith, get_or-set_same, get_or-set_other, length-set))));
       text_is =
           u32_same d new 8 8 (u16_same d new 8 8 (n_d 8 (omega arith)) (n_d 9 (omega arith))) (u16_same d new 10 10 (n_d 10 (omega arith)) (n_d 11 (omega arith)))
-          ∙ rw ed (u32_set32 c 8 0 (omega arith));
+          ∙ rw ed (u32_set32 c 8 0 (rw (lc, lb, ea) (grind (arith, get_or-set_same, get_or-set_other, length-set))));
       place_is = en.place_is;
       above = record {
-        same = λ k l.
-            en.above.same k l
-            ∙ d_c k (inr (omega arith))
-            ∙ c_b k (omega arith) (omega arith)
-            ∙ b_a k (omega arith) (omega arith)
-            ∙ rw ea
-            (get_or-set_other s3 3 k 0 0 (omega arith) ∙ get_or-set_other s2 2 k sub 0 (omega arith) ∙ get_or-set_other s1 1 k facts 0 (omega arith) ∙ get_or-set_other old 0 k kind 0 (omega arith));
+        same = λ k l. en.above.same k l ∙ d_c k (inr (omega arith)) ∙ c_b k (omega arith) (omega arith) ∙ b_a k (omega arith) (omega arith) ∙ rw ea (grind (arith, get_or-set_same, get_or-set_other, length-set));
       };
     }

@@ -1,51 +1,40 @@
--- Trees of the input that are to be written.
-use Rattle.std.specs.Prelude.{◌≡◌, List, [], ◌∷◌, ℕ, ◌+◌, ◌≤◌}
-use Rattle.std.proofs.Common.{sym, subst, arith}
-use Rattle.tree.specs.Tree.{Forest, Tree, trees, one, records, forest_trees}
+-- Trees that are to be written.
+use Rattle.std.specs.Prelude.{◌≡◌, List, ◌∷◌, ℕ, ◌+◌, ◌-◌, ◌≤◌}
+use Rattle.std.proofs.Common.{ap, sym, arith, ◌∙◌}
+use Rattle.tree.specs.Tree.{Tree, forest, records, size, forest_trees}
 use Rattle.tree.specs.Layout.{version_in}
 use Rattle.tree.specs.Room.{records_in}
-use Rattle.tree.specs.Stands.{Stands}
-use Rattle.readings.specs.Node.{SomeNode}
-use Rattle.readings.specs.Input.{Input, input_node}
-use Rattle.readings.specs.Split.{some_size}
-use Rattle.output.specs.Records.{MovedRecords}
-use Rattle.output.specs.Trees.{Wrote, CopiedTree, stands_copied}
+use Rattle.readings.specs.At.{forest_at}
+use Rattle.readings.specs.View.{left, tree}
+use Rattle.readings.specs.declared.node.Node.{Node}
+use Rattle.readings.specs.declared.node.Trees.{Trees}
+use Rattle.output.specs.Trees.{Wrote}
 
--- A list of trees stands from record `at` on, in `size` records, and out, whose records are as wide, has room for as many from record pos on.
-pub record GivenList (s : List ℕ) (at size : ℕ) (out : List ℕ) (pos : ℕ) : Type 0 where
-  pub forest : Forest
-  pub depth : ℕ
-  pub input : Input s at size depth forest
-  pub same : version_in out ≡ version_in s
-  pub fits : pos + size ≤ records_in out
+-- A tree, and out, whose records are as wide, has room for as many from record pos on.
+pub record GivenTree (n : Node) (out : List ℕ) (pos : ℕ) : Type 0 where
+  pub same : version_in out ≡ version_in n.record.src.now
+  pub fits : pos + size (tree n) ≤ records_in out
 
--- The same of one tree.
-pub record GivenTree (s : List ℕ) (at size : ℕ) (out : List ℕ) (pos : ℕ) : Type 0 where
-  pub tree : Tree
-  pub depth : ℕ
-  pub input : Input s at size depth (one tree)
-  pub same : version_in out ≡ version_in s
-  pub fits : pos + size ≤ records_in out
+-- The same of trees that stand one behind the other.
+pub record GivenTrees (w : Trees) (out : List ℕ) (pos : ℕ) : Type 0 where
+  pub same : version_in out ≡ version_in w.src.now
+  pub fits : pos + (w.end - w.at) ≤ records_in out
 
-module _ {s : List ℕ} {at size : ℕ} {out : List ℕ} {pos : ℕ} (g : GivenTree s at size out pos) where
-  pub given_inside : at + 1 ≤ records_in s
-  given_inside = omega (arith, g.input.inside, some_size g.input)
+-- The records that trees take.
+pub trees_size : (w : Trees) → records (forest (left w)) ≡ w.end - w.at
+trees_size w = ap records (forest_trees (forest_at w.src.now w.at (w.end - w.at))) ∙ w.held.1
 
-  pub given_node : SomeNode s at
-  given_node = record { tree = g.tree; node = input_node g.input }
+-- One step of a walk that writes: the next tree, and the trees behind it.
+module _ (s t : Trees) (n : Node) (y : (left s ≡ tree n ∷ left t) × (t.src.now ≡ s.src.now) × (n.record.src.now ≡ s.src.now)) where
+  pub step_size : s.end - s.at ≡ size (tree n) + (t.end - t.at)
+  step_size = omega (arith, trees_size s, trees_size t, ap (λ (l : List Tree). records (forest l)) y.0)
 
-module _ {s : List ℕ} {at size pos : ℕ} {old new : List ℕ} {depth : ℕ} where
-  pub copied_wrote : {r : ℕ} (t : Tree) → Input s at size depth (one t) → CopiedTree s at size old new pos r → Wrote old new pos r (t ∷ [])
-  copied_wrote t i c = c.by t i.holds.stands (omega (arith, i.holds.sized))
+  pub first_tree : {out : List ℕ} {pos : ℕ} → GivenTrees s out pos → GivenTree n out pos
+  first_tree g = record { same = g.same ∙ ap version_in (sym y.2); fits = omega (arith, g.fits, step_size) }
 
-  pub copied_list : (f : Forest) → Input s at size depth f → MovedRecords s at size old new pos → Wrote old new pos (pos + size) (trees f)
-  copied_list f i m =
-      let x = sym (forest_trees f) in
-      let n = i.holds.sized in
-      record {
-        spans = record {
-          stands = subst (λ (g : Forest). Stands new pos g) x (stands_copied f at pos (rw n at m.there) i.holds.stands);
-          ends = subst (λ (g : Forest). pos + size ≡ pos + records g) x (omega arith);
-        };
-        frame = m.below;
-      }
+  pub other_trees : {out mid : List ℕ} {pos next : ℕ} {l : List Tree} → GivenTrees s out pos → Wrote out mid pos next l → records (forest l) ≤ size (tree n)
+      → GivenTrees t mid next
+  other_trees g w few = record {
+    same = w.frame.same ∙ g.same ∙ ap version_in (sym y.1);
+    fits = omega (arith, g.fits, step_size, w.spans.ends, few, w.frame.room);
+  }

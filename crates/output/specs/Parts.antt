@@ -1,10 +1,11 @@
 -- What a function that was lent `&mut out[a..]` says of the part, said of the whole.
-use Rattle.std.specs.Prelude.{◌≡◌, List, [], ◌++◌, ◌⊎◌, ℕ, ◌+◌, ◌-◌, ◌<◌, ◌≤◌, take, drop}
+use Rattle.std.specs.Prelude.{◌≡◌, List, ◌⊎◌, ℕ, ◌+◌, ◌-◌, ◌<◌, ◌≤◌, drop}
 use Rattle.std.proofs.Math.Path.{refl, sym, subst}
-use Rattle.std.proofs.Common.{ap, ◌∙◌, append-nil, inl, inr, zero-add, length-drop, drop_of_length-le, take_all, length-take-le, get_or-append-add, get_or-take, get_or-drop}
+use Rattle.std.proofs.Common.{ap, ◌∙◌, inl, inr, zero-add, length-drop, take_all}
 use Rattle.std.proofs.Math.Logic.{⊎_elim}
 use native.Mathlib.Omega.{arith}
-use Rattle.std.proofs.Math.ListN.{length, get_or, get_or-append}
+use Rattle.std.proofs.lemmas.List.{places}
+use Rattle.std.proofs.Math.ListN.{length, get_or}
 use borrow.Rule.Slice.PartMut.{mid_of, put_mid}
 use Rattle.tree.specs.Tree.{Place}
 use Rattle.tree.specs.Offset as offset
@@ -19,15 +20,13 @@ use Rattle.output.specs.Records.{Before, Behind, MovedRecords, Recorded, before_
 module _ (a : ℕ) (xs ys : List ℕ) (h : a ≤ length xs) where
   -- The part's byte i is the whole's a + i.
   part_byte : (i : ℕ) → get_or (mid_of a (length xs - a) xs) i 0 ≡ get_or xs (a + i) 0
-  part_byte i = rw (take_all (length xs - a) (drop a xs) (rw length-drop (omega arith)), get_or-drop)
+  part_byte i = grind (arith, places)
 
   put_byte : (i : ℕ) → get_or (put_mid a (length xs - a) xs ys) (a + i) 0 ≡ get_or ys i 0
-  put_byte i =
-      let e : drop (length xs - a) (drop a xs) ≡ [] = drop_of_length-le (drop a xs) {i = length xs - a} (rw length-drop (omega arith)) in
-      rw (e, append-nil) (subst (λ (k : ℕ). get_or (take a xs ++ ys) (k + i) 0 ≡ get_or ys i 0) (length-take-le a xs h) (get_or-append-add (take a xs) ys i 0))
+  put_byte i = grind (arith, places)
 
   put_below : Agree xs (put_mid a (length xs - a) xs ys) a
-  put_below = record { same = λ i l. get_or-append (take a xs) _ 0 i (rw (length-take-le a xs h) l) ∙ get_or-take a xs i 0 l }
+  put_below = record { same = λ i l. grind (arith, places) }
 
   -- What stays of the part stays of the whole.
   put_kept : (k n : ℕ) → a + n ≤ k → Kept (mid_of a (length xs - a) xs) ys n → get_or (put_mid a (length xs - a) xs ys) k 0 ≡ get_or xs k 0

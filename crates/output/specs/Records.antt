@@ -1,10 +1,10 @@
 -- What copying, moving and making records leaves of a buffer's records. These are counted in records: a byte's place is in `Bytes`.
-use Rattle.std.specs.Prelude.{◌≡◌, refl, List, ℕ, ◌+◌, ◌-◌, ◌≤◌, length}
+use Rattle.std.specs.Prelude.{◌≡◌, refl, List, ℕ, ◌+◌, ◌*◌, ◌-◌, ◌≤◌, length}
 use Rattle.std.proofs.Common.{ap, ◌∙◌, arith}
 use Rattle.tree.specs.Tree.{Head}
 use Rattle.tree.specs.Offset as offset
 use Rattle.tree.specs.Layout.{Version, version_in, width, span, start, start_in}
-use Rattle.tree.specs.Room.{records_in, version_same, room_same, fields_within, header_before, span_none, span_one, span_plus, start_plus, span_le, start_le}
+use Rattle.tree.specs.Room.{records_in, version_same, room_same, fields_within, header_before, span_by, span_inside, span_none, span_one, span_plus, start_plus, span_le, start_le}
 use Rattle.tree.specs.Fields.{head_at, children_at, subtree_at}
 use Rattle.output.specs.Bytes.{Agree, Kept, Copied, Moved, agree_all, agree_less, agree_trans, agree_copied, kept_copied, copied_part, copied_u16, head_same}
 
@@ -133,3 +133,11 @@ moved_records {s} {at} {n} {old} {new} {pos} {p} {q} {m} ev ep eq em el c =
         same = below.same;
       };
     }
+
+-- The records from pos on, of which the first is to be overwritten by the n behind it, are within the bytes.
+pub records_within : (s : List ℕ) (pos n : ℕ) {to w : ℕ} → pos + 1 + n ≤ records_in s → to ≡ start_in s pos → w ≡ width (version_in s) → to + w + w * n ≤ length s
+records_within s pos n l e f = let v = version_in s in omega (arith, e, f, span_by v n f, span_inside v (length s) pos (n + 1) (omega arith) (omega arith), span_plus v n 1, span_one v)
+
+-- Some records are within the bytes, whoever told how wide they are.
+pub records_inside : (s : List ℕ) (at n : ℕ) {p w : ℕ} {v : Version} → at + n ≤ records_in s → 1 ≤ n → p ≡ start_in s at → version_in s ≡ v → w ≡ width v → p + w * n ≤ length s
+records_inside s at n {v = v} l m e x f = omega (arith, e, f, ap (λ (u : Version). span u n) x, span_by v n f, span_inside (version_in s) (length s) at n l m)

@@ -5,4 +5,6 @@ mod list;
 mod record;
 
 pub use list::{any_flagged, any_spread, count_trees};
-pub use record::{copy_bytes, copy_records, copy_tree, keep_at, make_at, move_down};
+pub use record::{
+    Counts, MadeHead, copy_bytes, copy_records, copy_tree, copy_trees, keep_at, make_at, move_down,
+};

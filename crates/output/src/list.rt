@@ -1,45 +1,35 @@
 // A list of trees that stands in a buffer, from one record to another: how many, and what any of them says.
 ghost use Rattle.rules.specs.Facts.{flagged};
 ghost use Rattle.rules.specs.Handler.{is_spread};
-ghost use Rattle.output.specs.Lists.{Spanned, Counts, AnyOf};
+ghost use Rattle.output.specs.Lists.{AnyOf, Counts, Lists, Spanned};
+
+use fields::record::kind;
+use readings::Trees;
+
+fn trees_between(s: &[u8], at: usize, end: usize) -> Trees<'_>
+    requires { Spanned s.now at end }
+    ensures { Lists s.now at end result }
+{
+    Trees { src: s, at, end }
+}
 
 pub fn count_trees(s: &[u8], at: usize, end: usize) -> usize
     requires { Spanned s.now at end }
     ensures { Counts s.now at end result }
 {
-    let mut p = at;
-    let mut n = 0;
-    while p < end {
-        n += 1;
-        p += fields::subtree_at(s, p);
-    }
-    n
+    trees_between(s, at, end).count()
 }
 
 pub fn any_flagged(s: &[u8], at: usize, end: usize) -> bool
     requires { Spanned s.now at end }
     ensures { AnyOf s.now at end flagged result }
 {
-    let mut p = at;
-    while p < end {
-        if readings::flagged_at(s, p) {
-            return true;
-        }
-        p += fields::subtree_at(s, p);
-    }
-    false
+    trees_between(s, at, end).any(|tree| tree.is_flagged())
 }
 
 pub fn any_spread(s: &[u8], at: usize, end: usize) -> bool
     requires { Spanned s.now at end }
     ensures { AnyOf s.now at end is_spread result }
 {
-    let mut p = at;
-    while p < end {
-        if fields::kind_at(s, p) == fields::kind::SPREAD {
-            return true;
-        }
-        p += fields::subtree_at(s, p);
-    }
-    false
+    trees_between(s, at, end).any(|tree| tree.record.kind() == kind::SPREAD)
 }

@@ -1,167 +1,103 @@
 // A class by its parts: what makes it an effect, what keeps it, and what its elements say.
-ghost use Rattle.std.specs.Prelude.{◌≡◌, ◌+◌, ◌≤◌};
-ghost use Rattle.tree.specs.Room.{records_in};
-ghost use Rattle.tree.specs.Fields.{node_at};
+ghost use Rattle.std.specs.Prelude.{◌≡◌, ◌≤◌, IfSome, drop, option_map, option_to_list, take};
+ghost use Rattle.tree.specs.Tree.{trees};
 ghost use Rattle.rules.specs.Lists.{any};
-ghost use Rattle.rules.specs.Class.{decorated_class, has_static_value, nonempty_static_block, decorated_element, index_signature, flagged_static_value, elements, arrow_heritage, kept_class};
+ghost use Rattle.rules.specs.Class.{arrow_heritage, computed_key, decorated_element, elements, flagged_static_value, heritage, kept_class, value_of};
 ghost use Rattle.rules.specs.Effects.{class_is_effect};
-ghost use Rattle.readings.specs.Node.{SomeNode, Tells};
-ghost use Rattle.readings.specs.Walk.{ListAt};
-ghost use Rattle.readings.specs.Class.{has_heritage, keeps_class};
+ghost use Rattle.readings.specs.Class.{keeps_class};
+ghost use Rattle.readings.specs.View.{left, tree};
 
-pub fn decorated_class_at(src: &[u8], i: usize) -> bool
-    requires { i + 1 ≤ records_in src.now }
-    ensures { result ≡ decorated_class (node_at src.now i) }
-{
-    fields::sub_at(src, i) % 2 == 1
-}
+use crate::alone;
+use crate::node::{Node, Trees};
+use fields::Kind;
 
-pub fn has_static_value_at(src: &[u8], i: usize) -> bool
-    requires { i + 1 ≤ records_in src.now }
-    ensures { result ≡ has_static_value (node_at src.now i) }
-{
-    let sub = fields::sub_at(src, i);
-    if sub / 8 % 2 == 1 {
-        return sub / 64 % 2 == 1;
-    }
-    false
-}
-
-pub fn nonempty_static_block_at(src: &[u8], i: usize) -> bool
-    requires { i + 1 ≤ records_in src.now }
-    ensures { result ≡ nonempty_static_block (node_at src.now i) }
-{
-    let sub = fields::sub_at(src, i);
-    if sub % 8 == 4 {
-        return sub / 128 % 2 == 1;
-    }
-    false
-}
-
-fn decorated_element_at(src: &[u8], i: usize) -> bool
-    requires { i + 1 ≤ records_in src.now }
-    ensures { result ≡ decorated_element (node_at src.now i) }
-{
-    fields::sub_at(src, i) / 32 % 2 == 1
-}
-
-fn index_signature_at(src: &[u8], i: usize) -> bool
-    requires { i + 1 ≤ records_in src.now }
-    ensures { result ≡ index_signature (node_at src.now i) }
-{
-    fields::sub_at(src, i) % 8 == 5
-}
-
-fn flagged_static_value_at(src: &[u8], i: usize) -> bool
-    requires { SomeNode src.now i }
-    ensures { Tells src.now i flagged_static_value result }
-{
-    if has_static_value_at(src, i) {
-        return crate::lists::flagged_after(src, i, fields::sub_at(src, i) / 16 % 2);
-    }
-    false
-}
-
-// Whether an element keeps its class.
-fn keeps_class_at(src: &[u8], i: usize) -> bool
-    requires { SomeNode src.now i }
-    ensures { Tells src.now i keeps_class result }
-{
-    if decorated_element_at(src, i) {
-        return true;
-    }
-    if index_signature_at(src, i) {
-        return true;
-    }
-    if nonempty_static_block_at(src, i) {
-        return true;
-    }
-    flagged_static_value_at(src, i)
-}
-
-pub fn has_heritage(src: &[u8], i: usize) -> bool
-    requires { SomeNode src.now i }
-    ensures { Tells src.now i has_heritage result }
-{
-    if fields::children_at(src, i) == 0 {
-        return false;
-    }
-    fields::sub_at(src, i) / 2 % 2 == 1
-}
-
-// The record where the elements of the class at record i start.
-pub fn elements_at(src: &[u8], i: usize) -> usize
-    requires { SomeNode src.now i }
-    ensures { ListAt src.now i elements result }
-{
-    crate::lists::children_after(src, i, fields::sub_at(src, i) / 2 % 2)
-}
-
-pub fn decorated_elements(src: &[u8], i: usize) -> bool
-    requires { SomeNode src.now i }
-    ensures { Tells src.now i (λ t. any decorated_element (elements t)) result }
-{
-    let end = i + fields::subtree_at(src, i);
-    let mut p = elements_at(src, i);
-    while p < end {
-        if decorated_element_at(src, p) {
-            return true;
+impl<'a> Node<'a> {
+    // Its first `has` children, none or one, and the others.
+    fn split_children(self, has: u8) -> (Option<Node<'a>>, Trees<'a>)
+        requires { has ≤ 1 }
+        ensures first { option_to_list (option_map tree result.0) ≡ take has (trees (tree self.entry).kids) }
+        ensures others { left result.1 ≡ drop has (trees (tree self.entry).kids) }
+        ensures source { (result.1.src.now ≡ self.entry.record.src.now) × IfSome result.0 (λ n. n.record.src.now ≡ self.entry.record.src.now) }
+    {
+        let mut children = self.children();
+        if has == 0 {
+            return (None, children);
         }
-        p += fields::subtree_at(src, p);
+        (children.next(), children)
     }
-    false
-}
 
-pub fn arrow_heritage(src: &[u8], i: usize) -> bool
-    requires { SomeNode src.now i }
-    ensures { Tells src.now i arrow_heritage result }
-{
-    if !has_heritage(src, i) {
-        return false;
+    // Of a class.
+    pub fn heritage_and_elements(self) -> (Option<Node<'a>>, Trees<'a>)
+        ensures first { option_to_list (option_map tree result.0) ≡ heritage (tree self.entry) }
+        ensures others { left result.1 ≡ elements (tree self.entry) }
+        ensures source { (result.1.src.now ≡ self.entry.record.src.now) × IfSome result.0 (λ n. n.record.src.now ≡ self.entry.record.src.now) }
+    {
+        self.split_children(self.record.sub() / 2 % 2)
     }
-    let size = fields::subtree_at(src, i + 1);
-    let last = crate::sequence::last_expression_in_sequence(src, i + 1, size);
-    fields::kind_at(src, last) == fields::kind::ARROW
-}
 
-pub fn class_is_effect(src: &[u8], i: usize) -> bool
-    requires { SomeNode src.now i }
-    ensures { Tells src.now i class_is_effect result }
-{
-    if decorated_class_at(src, i) {
-        return true;
+    // Of a class element.
+    pub fn key_and_value(self) -> (Option<Node<'a>>, Trees<'a>)
+        ensures first { option_to_list (option_map tree result.0) ≡ computed_key (tree self.entry) }
+        ensures others { left result.1 ≡ value_of (tree self.entry) (trees (tree self.entry).kids) }
+        ensures source { (result.1.src.now ≡ self.entry.record.src.now) × IfSome result.0 (λ n. n.record.src.now ≡ self.entry.record.src.now) }
+    {
+        self.split_children(self.record.sub() / 16 % 2)
     }
-    if decorated_elements(src, i) {
-        return true;
-    }
-    arrow_heritage(src, i)
-}
 
-fn elements_keep_class(src: &[u8], i: usize) -> bool
-    requires { SomeNode src.now i }
-    ensures { Tells src.now i (λ t. any keeps_class (elements t)) result }
-{
-    let end = i + fields::subtree_at(src, i);
-    let mut p = elements_at(src, i);
-    while p < end {
-        if keeps_class_at(src, p) {
-            return true;
+    fn flagged_static_value(self) -> bool
+        ensures { result ≡ flagged_static_value (tree self.entry) }
+    {
+        let (_, mut value) = self.key_and_value();
+        alone::has_static_value(self.record) && value.any(|child| child.is_flagged())
+    }
+
+    // Whether an element keeps its class.
+    #[tactic(auto, using(crate::specs::Alone::own), unfolding(crate::specs::Class::keeps_class))]
+    fn keeps_class(self) -> bool
+        ensures { result ≡ keeps_class (tree self.entry) }
+    {
+        alone::decorated_element(self.record)
+            || alone::index_signature(self.record)
+            || alone::nonempty_static_block(self.record)
+            || self.flagged_static_value()
+    }
+
+    fn arrow_heritage(self) -> bool
+        ensures { result ≡ arrow_heritage (tree self.entry) }
+    {
+        let (heritage, _) = self.heritage_and_elements();
+        match heritage {
+            Some(base) => base.last_expression_in_sequence().is_kind(Kind::Arrow),
+            None => false,
         }
-        p += fields::subtree_at(src, p);
     }
-    false
-}
 
-// Whether the class is kept.
-pub fn classify_class_removability(src: &[u8], i: usize) -> bool
-    requires { SomeNode src.now i }
-    ensures { Tells src.now i kept_class result }
-{
-    if decorated_class_at(src, i) {
-        return true;
+    fn decorated_elements(self) -> bool
+        ensures { result ≡ any decorated_element (elements (tree self.entry)) }
+    {
+        let (_, mut elements) = self.heritage_and_elements();
+        elements.any(|element| alone::decorated_element(element.record))
     }
-    if elements_keep_class(src, i) {
-        return true;
+
+    #[tactic(auto, using(crate::specs::Alone::own), unfolding(rules::specs::Effects::class_is_effect))]
+    pub fn class_is_effect(self) -> bool
+        ensures { result ≡ class_is_effect (tree self.entry) }
+    {
+        alone::decorated_class(self.record) || self.decorated_elements() || self.arrow_heritage()
     }
-    arrow_heritage(src, i)
+
+    fn elements_keep_class(self) -> bool
+        ensures { result ≡ any keeps_class (elements (tree self.entry)) }
+    {
+        let (_, mut elements) = self.heritage_and_elements();
+        elements.any(|element| element.keeps_class())
+    }
+
+    // Whether the class is kept.
+    #[tactic(auto, using(crate::specs::Alone::own, crate::specs::Class::kept_by_elements))]
+    pub fn classify_class_removability(self) -> bool
+        ensures { result ≡ kept_class (tree self.entry) }
+    {
+        alone::decorated_class(self.record) || self.elements_keep_class() || self.arrow_heritage()
+    }
 }

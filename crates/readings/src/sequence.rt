@@ -1,36 +1,22 @@
 // The last expression of a sequence.
 ghost use Rattle.std.specs.Prelude.{◌≡◌};
-ghost use Rattle.tree.specs.Fields.{subtree_at};
-ghost use Rattle.readings.specs.Node.{SomeNode, Finds};
-ghost use Rattle.readings.specs.Sequence.{last_child, last_or_itself};
+ghost use Rattle.readings.specs.Sequence.{last_or_itself};
+ghost use Rattle.readings.specs.View.{tree};
 
-// The record of the last child of the node at record i, which has size records; i where it has no child.
-pub fn last_child(src: &[u8], i: usize, size: usize) -> usize
-    requires { SomeNode src.now i × (size ≡ subtree_at src.now i) }
-    ensures { Finds src.now i last_child result }
-{
-    let end = i + size;
-    let mut last = i;
-    let mut p = i + 1;
-    while p < end {
-        last = p;
-        p += fields::subtree_at(src, p);
-    }
-    last
-}
+use crate::node::Node;
+use fields::Kind;
 
-// The record of the last expression of the tree at record i, which has size records: fewer at each call.
-#[tactic(auto, using(crate::specs::Sequence::finds_empty))]
-pub fn last_expression_in_sequence(src: &[u8], i: usize, size: usize) -> usize
-    requires { SomeNode src.now i × (size ≡ subtree_at src.now i) }
-    ensures { Finds src.now i last_or_itself result }
-{
-    if fields::kind_at(src, i) != fields::kind::SEQUENCE {
-        return i;
+impl<'a> Node<'a> {
+    // Through nested sequences, each time the last child; a node that is none, or has no child, is itself. Its size falls at each call.
+    pub fn last_expression_in_sequence(self) -> Node<'a>
+        ensures { tree result ≡ last_or_itself (tree self.entry) }
+    {
+        if !self.is_kind(Kind::Sequence) {
+            return self;
+        }
+        match self.children().last() {
+            Some(last) => last.last_expression_in_sequence(),
+            None => self,
+        }
     }
-    if size == 1 {
-        return i;
-    }
-    let last = last_child(src, i, size);
-    last_expression_in_sequence(src, last, fields::subtree_at(src, last))
 }

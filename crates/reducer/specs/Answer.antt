@@ -1,7 +1,9 @@
 -- What Reduce answers: document 01's number and values for every case, every lent byte, and what holds of an accepted file's answer.
-use Rattle.std.specs.Prelude.{◌≡◌, refl, Bool, cond, List, [], ◌∷◌, ◌++◌, ℕ, zero, suc, ◌*◌, ◌-◌, ◌≤◌, ltb, length, get_or, drop}
+use Rattle.std.specs.Prelude.{◌≡◌, refl, Bool, cond, List, [], ◌∷◌, ◌++◌, ℕ, zero, suc, ◌*◌, ◌-◌, ◌≤◌, ltb, length, get_or, drop, Option, Some, None, Result, Ok, Err}
 use Rattle.std.proofs.Common.{sym, ap, ◌∙◌, arith, length-append}
 use Rattle.stated.specs.Stated.{Stated, injective_by}
+use Rattle.refusal.specs.declared.Refusal.{Refusal}
+use Rattle.refusal.specs.Number.{number_of, refusal_of, refusal_back}
 use Rattle.tree.specs.Tree.{Tree, forest, records, levels, depth}
 use Rattle.tree.specs.Layout.{Version, v1, v2, version_in, width, span, start}
 use Rattle.tree.specs.Fields.{settings_of, count_of}
@@ -9,10 +11,8 @@ use Rattle.tree.specs.File.{file_bytes}
 use Rattle.tree.specs.Refusal.{reduce_limits, list_effects_limits, refusal, tree_of}
 use Rattle.rules.specs.Reduce.{reduce}
 use Rattle.rules.specs.Reads.{Premise}
-use Rattle.readings.specs.Node.{settings_given, settings_with}
+use Rattle.readings.specs.Given.{settings_given, settings_with}
 use Rattle.effects.specs.Answer.{effect_list_given}
-use Rattle.reducer.specs.declared.Reduced.{Reduced}
-use Rattle.reducer.specs.declared.Reduced.TheVariants.{Refused, Removable, Kept}
 
 pub data Case : Type 0 where
   refused removable kept : Case
@@ -24,10 +24,10 @@ refused_by n = record { case = Case.refused; number = n; values = 0 ∷ [] }
 abbrev pub answered : Case → ℕ → Stated Case
 answered case length = record { case = case; number = 0; values = length ∷ [] }
 
-abbrev pub stated : Reduced → Stated Case
-stated (Refused n) = refused_by n
-stated Removable = answered Case.removable 0
-stated (Kept n) = answered Case.kept n
+abbrev pub stated : Result (Option ℕ) Refusal → Stated Case
+stated (Ok None) = answered Case.removable 0
+stated (Ok (Some n)) = answered Case.kept n
+stated (Err r) = refused_by (number_of r)
 
 -- "9 output under 8 + 16 × (2 × N − 1) bytes": the length of a file of 2 × N − 1 records; 02, N6: "Each length formula uses 20 for 16 in
 -- version 2."
@@ -100,31 +100,31 @@ pub record Promised (s : List ℕ) : Type 0 where
   pub at_most_one : length (left s) ≤ 1
   pub kept_file : (t : Tree) → left s ≡ t ∷ [] → KeptFile s t
 
-pub record Answers (s old new : List ℕ) (r : Reduced) : Type 0 where
+pub record Answers (s old new : List ℕ) (r : Result (Option ℕ) Refusal) : Type 0 where
   pub answer : stated r ≡ stated_of (number s (length old)) s
   pub bytes : new ≡ bytes_of (number s (length old)) s old
   pub promised : number s (length old) ≡ 0 → Promised s
 
 -- An answer is determined by what it states, since it can be read back.
-reduced_of : Stated Case → Reduced
+reduced_of : Stated Case → Result (Option ℕ) Refusal
 reduced_of s = from s.case s.number s.values
   where
-    from : Case → ℕ → List ℕ → Reduced
-    from Case.refused n vs = Refused n
-    from Case.removable n vs = Removable
-    from Case.kept n vs = Kept (get_or vs 0 0)
+    from : Case → ℕ → List ℕ → Result (Option ℕ) Refusal
+    from Case.refused n vs = Err (refusal_of n)
+    from Case.removable n vs = Ok None
+    from Case.kept n vs = Ok (Some (get_or vs 0 0))
 
-pub stated_injective : (a b : Reduced) → stated a ≡ stated b → a ≡ b
+pub stated_injective : (a b : Result (Option ℕ) Refusal) → stated a ≡ stated b → a ≡ b
 unfolding reduced_of
 stated_injective = injective_by stated reduced_of read
   where
-    read : (a : Reduced) → reduced_of (stated a) ≡ a
-    read (Refused n) = refl
-    read Removable = refl
-    read (Kept n) = refl
+    read : (a : Result (Option ℕ) Refusal) → reduced_of (stated a) ≡ a
+    read (Ok None) = refl
+    read (Ok (Some n)) = refl
+    read (Err r) = ap Err (refusal_back r)
 
 -- The file that is kept stands in the lent bytes.
-pub kept_within : {s old new : List ℕ} {r : Reduced} {n : ℕ} → Answers s old new r → r ≡ Kept n → n ≤ length new
+pub kept_within : {s old new : List ℕ} {r : Result (Option ℕ) Refusal} {n : ℕ} → Answers s old new r → r ≡ Ok (Some n) → n ≤ length new
 kept_within {s} {old} {new} {r} {n} a is-kept = rw a.bytes (go (number s (length old)) (ap stated (sym is-kept) ∙ a.answer))
   where
     go : (k : ℕ) → answered Case.kept n ≡ stated_of k s → n ≤ length (bytes_of k s old)

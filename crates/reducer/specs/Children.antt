@@ -1,13 +1,15 @@
 -- The walk over a list of children.
-use Rattle.std.specs.Prelude.{◌≡◌, refl, List, [], ℕ, ◌+◌, ◌*◌, ◌-◌, ◌<◌, ◌≤◌, length}
-use Rattle.std.proofs.Common.{◌∙◌, arith}
-use Rattle.tree.specs.Tree.{Forest, nil, node, Tree, trees}
+use Rattle.std.specs.Prelude.{◌≡◌, List, [], ◌∷◌, ℕ, ◌+◌, ◌*◌, ◌-◌, ◌<◌, ◌≤◌}
+use Rattle.std.proofs.Common.{ap, sym, subst, ◌∙◌, arith}
+use Rattle.tree.specs.Tree.{Tree, All, forest, records, size}
 use Rattle.tree.specs.Layout.{version_in}
 use Rattle.tree.specs.Room.{records_in}
-use Rattle.tree.specs.Fields.{subtree_at}
 use Rattle.rules.specs.Settings.{Settings}
-use Rattle.readings.specs.Input.{Input}
-use Rattle.readings.specs.Split.{first_some, first_within, first_input, rest_input}
+use Rattle.readings.specs.View.{left, tree}
+use Rattle.readings.specs.declared.node.Node.{Node}
+use Rattle.readings.specs.declared.node.Trees.{Trees}
+use Rattle.effects.specs.Listing.{Listable}
+use Rattle.output.specs.Given.{step_size, trees_size}
 use Rattle.output.specs.Records.{before_all}
 use Rattle.output.specs.Trees.{wrote_none, wrote_both}
 use Rattle.rewrite.specs.Waiting.{Waits, waits_none}
@@ -16,126 +18,73 @@ use Rattle.reducer.specs.Walked.{step, walked}
 use Rattle.reducer.specs.Settled.{Stepped}
 use Rattle.reducer.specs.Given.{GivenChild, ReducedChild, GivenChildren, ReducedChildren}
 
--- Where the walk stands: what is left from record p to record e, behind what is settled and what waits, is what is left of all.
-pub record Walking (s : List ℕ) (at size depth : ℕ) (st : Settings) (part : Part) (old : List ℕ) (pos p e : ℕ) (cur : List ℕ) (slot next : ℕ) : Type 0 where
-  pub from : at ≤ p
-  pub inside : p ≤ e
-  pub same : length cur ≡ length old
-  pub ends : e ≡ at + size
-  pub small : 2 * size < 65536
-  pub as_wide : version_in cur ≡ version_in s
-  pub fits : pos + 2 * size ≤ records_in cur
+-- Where the walk over w stands: what is left of the trees of s, behind what is settled and what waits, is what is left of all.
+pub record Walking (w : Trees) (depth : ℕ) (st : Settings) (part : Part) (old : List ℕ) (pos : ℕ) (s : Trees) (cur : List ℕ) (slot next : ℕ) : Type 0 where
+  pub listable : All (Listable depth) (left s)
+  pub same : version_in cur ≡ version_in s.src.now
+  pub small : 2 * (w.end - w.at) < 65536
+  pub fits : pos + 2 * (w.end - w.at) ≤ records_in cur
   pub behind : pos ≤ slot
-  pub few : next ≤ pos + 2 * (p - at)
-  pub forest : Forest
-  pub input : Input s p (e - p) depth forest
+  pub few : next + 2 * (s.end - s.at) ≤ pos + 2 * (w.end - w.at)
   pub wait : List Tree
   pub waits : Waits cur slot next wait
-  pub whole : (new : List ℕ) (slot' next' : ℕ) → ReducedChildren s p (e - p) depth st part cur new slot next slot' next' → ReducedChildren s at size depth st part old new pos pos slot' next'
+  pub whole : (new : List ℕ) (slot' next' : ℕ) → ReducedChildren (left s) st part cur new slot next slot' next' → ReducedChildren (left w) st part old new pos pos slot' next'
 
-pub walk_start : {s : List ℕ} {at size depth : ℕ} {st : Settings} {part : Part} {old : List ℕ} {pos : ℕ}
-    → GivenChildren s at size depth old pos → Walking s at size depth st part old pos at (at + size) old pos pos
-walk_start {s} {at} {size} {depth} {st} {part} {old} {pos} g =
-    let e : at + size - at ≡ size = omega arith in
-    record {
-      from = omega arith;
-      inside = omega arith;
-      same = refl;
-      ends = refl;
-      small = g.small;
-      as_wide = g.same;
-      fits = g.fits;
-      behind = omega arith;
-      few = omega arith;
-      forest = g.forest;
-      input = rw e g.input;
-      wait = [];
-      waits = waits_none old pos;
-      whole = λ new a b w. rw e at w;
-    }
+module _ (w : Trees) {depth : ℕ} (st : Settings) (part : Part) {old : List ℕ} {pos : ℕ} where
+  pub walk_start : GivenChildren w depth old pos → Walking w depth st part old pos w old pos pos
+  walk_start g = record {
+    listable = g.listable;
+    same = g.same;
+    small = g.small;
+    fits = g.fits;
+    behind = omega arith;
+    few = omega arith;
+    wait = [];
+    waits = waits_none old pos;
+    whole = λ new a b y. y;
+  }
 
-module _ {s : List ℕ} {at size depth : ℕ} {st : Settings} {part : Part} {old : List ℕ} {pos p e : ℕ} {cur : List ℕ} {slot next : ℕ}
-    (w : Walking s at size depth st part old pos p e cur slot next) where
-  pub walk_done : e ≤ p → ReducedChildren s at size depth st part old cur pos pos slot next
-  walk_done l = w.whole cur slot next (record { by = go; few = omega arith })
-    where
-      go : (f : Forest) → Input s p (e - p) depth f → (v : List Tree) → Waits cur slot next v → Stepped cur cur slot slot next (walked part st v (trees f))
-      go nil i v x = record { done = wrote_none (before_all cur slot); waiting = x }
-      go (node h cs rest) i v x = absurd (omega (arith, i.holds.sized, w.inside))
+  module _ (s : Trees) {cur : List ℕ} {slot next : ℕ} (k : Walking w depth st part old pos s cur slot next) where
+    pub walk_done : left s ≡ [] → ReducedChildren (left w) st part old cur pos pos slot next
+    walk_done e = k.whole cur slot next (record { by = λ v x. rw e (record { done = wrote_none (before_all cur slot); waiting = x }); few = omega arith })
 
-  module _ (l : p < e) where
-    pub walk_subtree : p + 1 ≤ records_in s
-    walk_subtree = omega (arith, w.input.inside, w.inside)
+    -- The next tree, and the trees behind it.
+    module _ (t : Trees) (n : Node) (y : (left s ≡ tree n ∷ left t) × (t.src.now ≡ s.src.now) × (n.record.src.now ≡ s.src.now)) where
+      both : All (Listable depth) (tree n ∷ left t)
+      both = subst (λ (l : List Tree). All (Listable depth) l) y.0 k.listable
 
-    pub child_some : 1 ≤ subtree_at s p
-    child_some = go w.forest w.input
-      where
-        go : (f : Forest) → Input s p (e - p) depth f → 1 ≤ subtree_at s p
-        go nil i = absurd (omega (arith, i.holds.sized))
-        go (node h cs rest) i = first_some i
+      pub next_given : GivenChild n depth cur slot next
+      next_given = record {
+        listable = both.0;
+        same = k.same ∙ ap version_in (sym y.2);
+        wait = k.wait;
+        waits = k.waits;
+        fits = omega (arith, k.fits, k.few, step_size s t n y);
+        small = omega (arith, k.small, k.few, k.behind, step_size s t n y);
+      }
 
-    pub child_within : p + subtree_at s p ≤ e
-    child_within = go w.forest w.input
-      where
-        go : (f : Forest) → Input s p (e - p) depth f → p + subtree_at s p ≤ e
-        go nil i = absurd (omega (arith, i.holds.sized))
-        go (node h cs rest) i = omega (arith, first_within i)
+      module _ {cur' : List ℕ} {slot' next' : ℕ} (a : ReducedChild (tree n) st part cur cur' slot next slot' next') where
+        rest_whole : (new : List ℕ) (slot'' next'' : ℕ) → ReducedChildren (left t) st part cur' new slot' next' slot'' next'' → ReducedChildren (left s) st part cur new slot next slot'' next''
+        rest_whole new slot'' next'' b = rw y.0 (record {
+          by = λ v x.
+              let q = step part st v (tree n) in
+              let c = a.by v x in
+              let d = b.by q.waiting c.waiting in
+              record { done = wrote_both q.done (walked part st q.waiting (left t)).done c.done d.done; waiting = d.waiting };
+          few = omega (arith, a.few, b.few);
+        })
 
-    pub child_given : (z : ℕ) → z ≡ subtree_at s p → GivenChild s p z depth cur slot next
-    child_given z ez = rw ez (go w.forest w.input)
-      where
-        go : (f : Forest) → Input s p (e - p) depth f → GivenChild s p (subtree_at s p) depth cur slot next
-        go nil i = absurd (omega (arith, i.holds.sized))
-        go (node h cs rest) i = record {
-          tree = record { head = h; kids = cs };
-          input = first_input i;
-          same = w.as_wide;
-          wait = w.wait;
-          waits = w.waits;
-          fits = omega (arith, w.fits, w.few, w.from, w.ends, child_within);
-          small = omega (arith, w.small, w.few, w.from, w.ends, w.behind, child_within);
-        }
-
-    module _ (z : ℕ) (ez : z ≡ subtree_at s p) {cur' : List ℕ} {slot' next' : ℕ} (a : ReducedChild s p z depth st part cur cur' slot next slot' next') (n : length cur' ≡ length cur) where
-      a' : ReducedChild s p (subtree_at s p) depth st part cur cur' slot next slot' next'
-      a' = rw ez at a
-
-      rest_whole : (new : List ℕ) (slot'' next'' : ℕ) → ReducedChildren s (p + subtree_at s p) (e - p - subtree_at s p) depth st part cur' new slot' next' slot'' next'' → ReducedChildren s p (e - p) depth st part cur new slot next slot'' next''
-      rest_whole new slot'' next'' b = record { by = go; few = omega (arith, a'.few, b.few, child_within) }
-        where
-          go : (f : Forest) → Input s p (e - p) depth f → (v : List Tree) → Waits cur slot next v → Stepped cur new slot slot'' next'' (walked part st v (trees f))
-          go nil i v x = absurd (omega (arith, i.holds.sized))
-          go (node h cs rest) i v x =
-              let t : Tree = record { head = h; kids = cs } in
-              let q = step part st v t in
-              let y = a'.by t (first_input i) v x in
-              let z = b.by rest (rest_input i) q.waiting y.waiting in
-              record { done = wrote_both q.done (walked part st q.waiting (trees rest)).done y.done z.done; waiting = z.waiting }
-
-      pub walk_on : Walking s at size depth st part old pos (p + z) e cur' slot' next'
-      walk_on = rw ez (go w.forest w.input)
-        where
-          y : e - p - subtree_at s p ≡ e - (p + subtree_at s p)
-          y = omega (arith, child_within)
-
-          go : (f : Forest) → Input s p (e - p) depth f → Walking s at size depth st part old pos (p + subtree_at s p) e cur' slot' next'
-          go nil i = absurd (omega (arith, i.holds.sized))
-          go (node h cs rest) i =
-              let t : Tree = record { head = h; kids = cs } in
-              let d = a'.by t (first_input i) w.wait w.waits in
-              record {
-                from = omega (arith, w.from);
-                inside = child_within;
-                same = n ∙ w.same;
-                ends = w.ends;
-                small = w.small;
-                as_wide = d.done.frame.same ∙ w.as_wide;
-                fits = omega (arith, w.fits, d.done.frame.room);
-                behind = omega (arith, w.behind, d.done.spans.ends);
-                few = omega (arith, w.few, a'.few, w.from);
-                forest = rest;
-                input = rw y at (rest_input i);
-                wait = (step part st w.wait t).waiting;
-                waits = d.waiting;
-                whole = λ new b c v. w.whole new b c (rest_whole new b c (rw (← y) at v));
-              }
+        pub walk_on : Walking w depth st part old pos t cur' slot' next'
+        walk_on =
+            let d = a.by k.wait k.waits in
+            record {
+              listable = both.1;
+              same = d.done.frame.same ∙ k.same ∙ ap version_in (sym y.1);
+              small = k.small;
+              fits = omega (arith, k.fits, d.done.frame.room);
+              behind = omega (arith, k.behind, d.done.spans.ends);
+              few = omega (arith, k.few, a.few, step_size s t n y);
+              wait = (step part st k.wait (tree n)).waiting;
+              waits = d.waiting;
+              whole = λ new b c v. k.whole new b c (rest_whole new b c v);
+            }

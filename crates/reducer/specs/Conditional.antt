@@ -1,154 +1,122 @@
 -- A flagged conditional: its arms are reduced behind records for itself and its test.
-use Rattle.std.specs.Prelude.{◌≡◌, List, [], ◌∷◌, ℕ, ◌+◌, ◌*◌, ◌-◌, ◌<◌, ◌≤◌}
-use Rattle.std.proofs.Common.{sym, ◌∙◌, append-nil, arith}
-use Rattle.tree.specs.Tree.{Tree, forest, one, records}
+use Rattle.std.specs.Prelude.{◌≡◌, refl, List, [], ◌∷◌, ℕ, ◌+◌, ◌*◌, ◌-◌, ◌<◌, ◌≤◌}
+use Rattle.std.proofs.Common.{ap, sym, ◌∙◌, append-nil, arith}
+use Rattle.tree.specs.Tree.{Tree, All, trees, records, size, forest, forest_trees}
 use Rattle.tree.specs.Layout.{version_in}
 use Rattle.tree.specs.Room.{records_in}
-use Rattle.tree.specs.Fields.{subtree_at}
 use Rattle.rules.specs.Settings.{Settings}
-use Rattle.rules.specs.Conditional.{test}
+use Rattle.rules.specs.Conditional as conditional
 use Rattle.rules.specs.Reduce.{reduce, join_arms}
 use Rattle.rules.proofs.Theorems.{at_most_twice}
-use Rattle.readings.specs.Input.{Input}
-use Rattle.readings.specs.Split.{some_size}
-use Rattle.readings.specs.Arms.{Arms, arms_at}
-use Rattle.handlers.specs.Outcome.{Handles}
+use Rattle.readings.specs.View.{tree}
+use Rattle.readings.specs.declared.node.Node.{Node}
+use Rattle.effects.specs.Listing.{Listable, listable_kids}
+use Rattle.handlers.specs.Outcome.{HandledAs}
 use Rattle.handlers.specs.declared.outcome.Outcome.TheVariants.{Conditional}
-use Rattle.output.specs.Records.{Before, MovedRecords, before_less, before_trans}
-use Rattle.output.specs.Trees.{Spans, Wrote, stands_copied, spans_agree, spans_kept, wrote_as}
+use Rattle.output.specs.Given as whole
+use Rattle.output.specs.Records.{Before, Behind, before_less, before_trans}
+use Rattle.output.specs.Trees.{Spans, Wrote, spans_agree, spans_kept, wrote_as}
 use Rattle.rewrite.specs.Arms.{GivenArms, JoinsArms}
-use Rattle.reducer.specs.Given.{GivenTree, ReducedTree}
-use Rattle.reducer.specs.Expression.{outcome_is}
+use Rattle.reducer.specs.Given.{GivenTree}
 
-pub record GivenConditional (s : List ℕ) (at size depth : ℕ) (st : Settings) (out : List ℕ) (pos : ℕ) : Type 0 where
-  pub given : GivenTree s at size depth out pos
-  pub handles : Handles s at st Conditional
+pub record GivenConditional (u : Node) (depth : ℕ) (st : Settings) (out : List ℕ) (pos : ℕ) : Type 0 where
+  pub given : GivenTree u depth out pos
+  pub handles : HandledAs st (tree u) Conditional
 
--- The test takes q records, and the consequent c.
-module _ {s : List ℕ} {at size depth : ℕ} {st : Settings} (h : Handles s at st Conditional) {q c : ℕ} (eq : q ≡ subtree_at s (at + 1)) (ec : c ≡ subtree_at s (at + 1 + q)) where
-  parts : (t : Tree) → Input s at size depth (one t) → Arms s at size depth t q c
-  parts t i = arms_at i (outcome_is Conditional h t i).has.1 q c eq ec
+-- Its test and its arms: three children, of the same bytes.
+pub record Arms (u test first second : Node) : Type 0 where
+  pub kids : trees (tree u).kids ≡ tree test ∷ tree first ∷ tree second ∷ []
+  pub test_source : test.record.src.now ≡ u.record.src.now
+  pub first_source : first.record.src.now ≡ u.record.src.now
+  pub second_source : second.record.src.now ≡ u.record.src.now
 
-  joined : (t : Tree) (i : Input s at size depth (one t)) → reduce st t ≡ join_arms t (reduce st (parts t i).test) (reduce st (parts t i).consequent) (reduce st (parts t i).alternate)
-  joined t i =
-      let p = parts t i in
-      (outcome_is Conditional h t i).is ∙ rw (p.are, append-nil (reduce st p.test), append-nil (reduce st p.consequent), append-nil (reduce st p.alternate))
+module _ {u test first second : Node} (a : Arms u test first second) where
+  pub arms_size : 1 + size (tree test) + size (tree first) + size (tree second) ≡ size (tree u)
+  arms_size = omega (arith, ap (λ (l : List Tree). records (forest l)) a.kids, ap records (forest_trees (tree u).kids))
 
-  -- What is given to the arms.
-  module _ {out : List ℕ} {pos : ℕ} (g : GivenTree s at size depth out pos) where
-    p : Arms s at size depth g.tree q c
-    p = parts g.tree g.input
+  module _ {st : Settings} {depth : ℕ} {old : List ℕ} {pos : ℕ} (g : GivenConditional u depth st old pos) where
+    three : All (Listable (depth - 1)) (tree test ∷ tree first ∷ tree second ∷ [])
+    three = rw a.kids at (listable_kids g.given.listable)
 
-    pub arms_within : 1 + q + c < size
-    arms_within = p.within
+    joined : reduce st (tree u) ≡ join_arms (tree u) (reduce st (tree test)) (reduce st (tree first)) (reduce st (tree second))
+    joined = g.handles.is ∙ rw (a.kids, append-nil (reduce st (tree test)), append-nil (reduce st (tree first)), append-nil (reduce st (tree second)))
 
-    pub consequent_given : GivenTree s (at + 1 + q) c (depth - 1) out (pos + 1 + q)
-    consequent_given = record { tree = p.consequent; input = p.consequent_in; same = g.same; fits = omega (arith, g.fits, p.within); small = omega (arith, g.small, p.within) }
+    pub first_given : GivenTree first (depth - 1) old (pos + 1 + size (tree test))
+    first_given = record { listable = three.1.0; same = g.given.same ∙ ap version_in (sym a.first_source); fits = omega (arith, g.given.fits, arms_size); small = omega (arith, g.given.small, arms_size) }
 
-  -- The consequent was reduced.
-  module _ (pos : ℕ) {old mid : List ℕ} {middle : ℕ} (a : ReducedTree s (at + 1 + q) c (depth - 1) st old mid (pos + 1 + q) middle) where
-    consequent_few : (t : Tree) → Input s at size depth (one t) → middle ≤ pos + q + 2 * c
-    consequent_few t i =
-        let p = parts t i in
-        omega (arith, (a.by p.consequent p.consequent_in).spans.ends, at_most_twice st p.consequent, p.consequent_in.holds.sized, some_size p.consequent_in)
+    module _ {mid : List ℕ} {middle : ℕ} (x : Wrote old mid (pos + 1 + size (tree test)) middle (reduce st (tree first))) where
+      first_few : middle + 1 ≤ pos + 1 + size (tree test) + 2 * size (tree first)
+      first_few = omega (arith, x.spans.ends, at_most_twice st (tree first))
 
-    pub alternate_given : GivenTree s at size depth old pos → GivenTree s (at + 1 + q + c) (size - 1 - q - c) (depth - 1) mid middle
-    alternate_given g =
-        let p = parts g.tree g.input in
-        record {
-          tree = p.alternate;
-          input = p.alternate_in;
-          same = (a.by p.consequent p.consequent_in).frame.same ∙ g.same;
-          fits = omega (arith, (a.by p.consequent p.consequent_in).frame.room, g.fits, p.within, consequent_few g.tree g.input);
-          small = omega (arith, g.small, p.within);
+      pub second_given : GivenTree second (depth - 1) mid middle
+      second_given = record {
+        listable = three.1.1.0;
+        same = x.frame.same ∙ g.given.same ∙ ap version_in (sym a.second_source);
+        fits = omega (arith, x.frame.room, g.given.fits, arms_size, first_few);
+        small = omega (arith, g.given.small, arms_size);
+      }
+
+      module _ {mid' : List ℕ} {end : ℕ} (y : Wrote mid mid' middle end (reduce st (tree second))) where
+        frame : Before old mid' (pos + 1 + size (tree test))
+        frame = before_trans x.frame y.frame (omega (arith, x.spans.ends))
+
+        first_spans : Spans mid' (pos + 1 + size (tree test)) middle (reduce st (tree first))
+        first_spans = spans_agree x.spans y.frame (omega arith)
+
+        few : end < pos + 2 * size (tree u)
+        few = omega (arith, y.spans.ends, at_most_twice st (tree second), arms_size, first_few)
+
+        -- Both are gone: the test is reduced in the conditional's place.
+        pub test_given : GivenTree test (depth - 1) mid' pos
+        test_given = record {
+          listable = three.0;
+          same = frame.same ∙ g.given.same ∙ ap version_in (sym a.test_source);
+          fits = omega (arith, frame.room, g.given.fits, arms_size);
+          small = omega (arith, g.given.small, arms_size);
         }
 
-    -- And the alternate.
-    module _ {mid' : List ℕ} {end : ℕ} (b : ReducedTree s (at + 1 + q + c) (size - 1 - q - c) (depth - 1) st mid mid' middle end) where
-      record Reached (t : Tree) (i : Input s at size depth (one t)) : Type 0 where
-        consequent : Spans mid' (pos + 1 + q) middle (reduce st (parts t i).consequent)
-        alternate : Spans mid' middle end (reduce st (parts t i).alternate)
-        frame : Before old mid' (pos + 1 + q)
-        few : end < pos + 2 * size
+        pub both_gone : end ≡ pos + 1 + size (tree test) → {new : List ℕ} {r : ℕ} → Wrote mid' new pos r (reduce st (tree test)) → Wrote old new pos r (reduce st (tree u))
+        both_gone e {new} {r} d = go (reduce st (tree first)) (reduce st (tree second)) first_spans y.spans joined
+          where
+            go : (cs bs : List Tree) → Spans mid' (pos + 1 + size (tree test)) middle cs → Spans mid' middle end bs
+                → reduce st (tree u) ≡ join_arms (tree u) (reduce st (tree test)) cs bs → Wrote old new pos r (reduce st (tree u))
+            go [] [] p q z = wrote_as (record { spans = d.spans; frame = before_trans (before_less pos (omega arith) frame) d.frame (omega arith) }) (sym z)
+            go [] (v ∷ vs) p q z = absurd (omega (arith, e, p.ends, q.ends))
+            go (v ∷ vs) bs p q z = absurd (omega (arith, e, p.ends, q.ends))
 
-      reached : (t : Tree) (i : Input s at size depth (one t)) → Reached t i
-      reached t i =
-          let p = parts t i in
-          let x = a.by p.consequent p.consequent_in in
-          let y = b.by p.alternate p.alternate_in in
-          record {
-            consequent = spans_agree x.spans y.frame (omega arith);
-            alternate = y.spans;
-            frame = before_trans x.frame y.frame (omega (arith, x.spans.ends));
-            few = omega (arith, y.spans.ends, at_most_twice st p.alternate, p.alternate_in.holds.sized, some_size p.alternate_in, p.within, consequent_few t i);
-          }
+        -- One is left: the test is copied before them.
+        pub test_room : whole.GivenTree test mid' (pos + 1)
+        test_room = record { same = test_given.same; fits = omega (arith, frame.room, g.given.fits, arms_size) }
 
-      pub test_same : GivenTree s at size depth old pos → version_in mid' ≡ version_in s
-      test_same g = (reached g.tree g.input).frame.same ∙ g.same
+-- One is left: the test is copied before them.
+module _ {u test first second : Node} (a : Arms u test first second) {st : Settings} {depth : ℕ} {old mid mid' mid'' : List ℕ} {pos middle end : ℕ} (g : GivenConditional u depth st old pos)
+    (x : Wrote old mid (pos + 1 + size (tree test)) middle (reduce st (tree first))) (y : Wrote mid mid' middle end (reduce st (tree second)))
+    {next : ℕ} (m : Wrote mid' mid'' (pos + 1) next (tree test ∷ [])) (behind : Behind mid' mid'' (pos + 1 + size (tree test))) where
+  test_spans : Spans mid'' (pos + 1) (pos + 1 + size (tree test)) (tree test ∷ [])
+  test_spans = record { stands = m.spans.stands; ends = omega arith }
 
-      -- Both are gone: the test is reduced in the conditional's place.
-      pub test_given : GivenTree s at size depth old pos → GivenTree s (at + 1) q (depth - 1) mid' pos
-      test_given g =
-          let p = parts g.tree g.input in
-          record {
-            tree = p.test;
-            input = p.test_in;
-            same = test_same g;
-            fits = omega (arith, (reached g.tree g.input).frame.room, g.fits, p.within);
-            small = omega (arith, g.small, p.within);
-          }
+  consequent_spans : Spans mid'' (pos + 1 + size (tree test)) middle (reduce st (tree first))
+  consequent_spans = spans_kept (first_spans a g x y) behind (omega arith)
 
-      pub test_room : GivenTree s at size depth old pos → pos + 1 + q ≤ records_in mid'
-      test_room g = let p = parts g.tree g.input in omega (arith, (reached g.tree g.input).frame.room, g.fits, p.within)
+  alternate_spans : Spans mid'' middle end (reduce st (tree second))
+  alternate_spans = spans_kept y.spans behind (omega (arith, x.spans.ends))
 
-      pub both_gone : end ≡ pos + 1 + q → {new : List ℕ} {r : ℕ} → ReducedTree s (at + 1) q (depth - 1) st mid' new pos r → ReducedTree s at size depth st old new pos r
-      both_gone e {new} {r} d = record { by = λ t i. go t i (reduce st (parts t i).consequent) (reduce st (parts t i).alternate) (reached t i).consequent (reached t i).alternate (joined t i) }
-        where
-          go : (t : Tree) (i : Input s at size depth (one t)) (cs bs : List Tree) → Spans mid' (pos + 1 + q) middle cs → Spans mid' middle end bs
-              → reduce st t ≡ join_arms t (reduce st (parts t i).test) cs bs → Wrote old new pos r (reduce st t)
-          go t i [] [] x y z =
-              let w = d.by (parts t i).test (parts t i).test_in in
-              wrote_as (record { spans = w.spans; frame = before_trans (before_less pos (omega arith) (reached t i).frame) w.frame (omega arith) }) (sym z)
-          go t i [] (u ∷ us) x y z = absurd (omega (arith, e, x.ends, y.ends))
-          go t i (u ∷ us) bs x y z = absurd (omega (arith, e, x.ends, y.ends))
+  pub arms_given : (end ≡ pos + 1 + size (tree test) → ⊥) → GivenArms u mid'' pos (pos + 1 + size (tree test)) middle end
+  arms_given k = record {
+    same = m.frame.same ∙ (frame a g x y).same ∙ g.given.same;
+    tests = tree test ∷ [];
+    consequents = reduce st (tree first);
+    alternates = reduce st (tree second);
+    test_spans = test_spans;
+    consequent_spans = consequent_spans;
+    alternate_spans = alternate_spans;
+    some = omega (arith, k, x.spans.ends, y.spans.ends);
+    inside = omega (arith, m.frame.room, (frame a g x y).room, few a g x y, g.given.fits);
+    small = omega (arith, few a g x y, g.given.small);
+  }
 
-      -- One is left: the test was copied before them.
-      module _ {mid'' : List ℕ} (m : MovedRecords s (at + 1) q mid' mid'' (pos + 1)) where
-        test_spans : (t : Tree) (i : Input s at size depth (one t)) → Spans mid'' (pos + 1) (pos + 1 + q) ((parts t i).test ∷ [])
-        test_spans t i =
-            let p = parts t i in
-            let z : q ≡ records (forest (p.test ∷ [])) = omega (arith, p.test_in.holds.sized) in
-            record {
-              stands = stands_copied (forest (p.test ∷ [])) (at + 1) (pos + 1) (rw z at m.there) p.test_in.holds.stands;
-              ends = omega (arith, z);
-            }
-
-        pub arms_given : GivenTree s at size depth old pos → (end ≡ pos + 1 + q → ⊥) → GivenArms s at mid'' pos (pos + 1 + q) middle end
-        arms_given g k =
-            let p = parts g.tree g.input in
-            let w = reached g.tree g.input in
-            record {
-              node_inside = omega (arith, g.input.inside, some_size g.input);
-              same = m.below.same ∙ test_same g;
-              tests = p.test ∷ [];
-              consequents = reduce st p.consequent;
-              alternates = reduce st p.alternate;
-              test_spans = test_spans g.tree g.input;
-              consequent_spans = spans_kept w.consequent m.above (omega arith);
-              alternate_spans = spans_kept w.alternate m.above (omega (arith, w.consequent.ends));
-              some = omega (arith, k, w.consequent.ends, w.alternate.ends);
-              inside = omega (arith, m.below.room, w.frame.room, w.few, g.fits);
-              small = omega (arith, w.few, g.small);
-            }
-
-        pub conditional_done : {new : List ℕ} {r : ℕ} → JoinsArms s at mid'' new pos (pos + 1 + q) middle end r → ReducedTree s at size depth st old new pos r
-        conditional_done j = record {
-          by = λ t i.
-              let p = parts t i in
-              let w = reached t i in
-              let e : test t ≡ p.test ∷ [] = rw p.are in
-              let x =
-              j.by t i.holds.stands.0 (rw e (test_spans t i)) (reduce st p.test) (reduce st p.consequent) (reduce st p.alternate)
-              (spans_kept w.consequent m.above (omega arith)) (spans_kept w.alternate m.above (omega (arith, w.consequent.ends))) in
-              wrote_as (record { spans = x.spans; frame = before_trans (before_trans (before_less pos (omega arith) w.frame) m.below (omega arith)) x.frame (omega arith) }) (sym (joined t i));
-        }
+  pub conditional_done : {new : List ℕ} {r : ℕ} → JoinsArms u mid'' new pos (pos + 1 + size (tree test)) middle end r → Wrote old new pos r (reduce st (tree u))
+  conditional_done j =
+      let e : conditional.test (tree u) ≡ tree test ∷ [] = rw a.kids refl in
+      let z = j.by (rw e test_spans) (reduce st (tree test)) (reduce st (tree first)) (reduce st (tree second)) consequent_spans alternate_spans in
+      wrote_as (record { spans = z.spans; frame = before_trans (before_trans (before_less pos (omega arith) (frame a g x y)) (before_less pos (omega arith) m.frame) (omega arith)) z.frame (omega arith) }) (sym (joined a g))

@@ -5,7 +5,6 @@ use Rattle.le.specs.Le.{u16_at, set16}
 use Rattle.le.specs.Laws.{u16_set16, get_d_set16_other}
 use Rattle.tree.specs.Layout.{version_in, header_bytes}
 use Rattle.tree.specs.Room.{version_same, header_before}
-use Rattle.output.specs.Bytes.{Moved, copied_at}
 use Rattle.output.specs.Records.{Before, Behind}
 
 -- The first six bytes are those of s.
@@ -17,9 +16,6 @@ pub record Counted (old new : List ℕ) (n : ℕ) : Type 0 where
   pub same : (k : ℕ) → k < 6 → get_or new k 0 ≡ get_or old k 0
   pub counts : u16_at new 6 ≡ n
   pub above : Behind old new 0
-
-pub begun : {s old new : List ℕ} → Moved s 0 6 old new 0 → Begun s new
-begun m = record { same = λ k h. copied_at m.there k k k (omega arith) (omega arith) h }
 
 pub begun_version : {s new : List ℕ} → Begun s new → version_in new ≡ version_in s
 begun_version {s} {new} b = version_same s new (b.same 3 (omega arith))

@@ -1,13 +1,15 @@
 -- The operation: from the check's answer to the rewritten file.
-use Rattle.std.specs.Prelude.{◌≡◌, Bool, ℕ, zero, suc, ◌+◌, ◌*◌, ◌-◌, ◌<◌, ◌≤◌, get_or}
+use Rattle.std.specs.Prelude.{◌≡◌, Bool, ℕ, zero, suc, ◌+◌, ◌*◌, ◌-◌, ◌<◌, ◌≤◌, get_or, Some, None, Ok, Err}
 use Rattle.std.proofs.Math.Path.{refl, sym, ap, subst}
 use Rattle.std.proofs.Common.{◌∙◌, ⊎_elim, arith, length-append, length-drop, ext_get_or, get_or-append-add, get_or-drop}
 use Rattle.std.proofs.Math.Bool.{true}
 use mathlib.Core.List.{List, [], ◌∷◌, ◌++◌}
 use Rattle.std.proofs.Math.Dec.{ltb}
 use Rattle.std.proofs.Math.ListN.{length, drop, get_or-append}
-use borrow.Author.Tests.{lt-ltb, le-ltb}
+use borrow.Author.Tests.{le-ltb}
 use Rattle.le.specs.Le.{u16_at}
+use Rattle.refusal.specs.declared.Refusal.{Refusal}
+use Rattle.refusal.specs.Number.{number_of}
 use Rattle.tree.specs.Tree.{Tree, forest, one, records, size}
 use Rattle.tree.specs.Below.{lt_or_le}
 use Rattle.tree.specs.Layout.{Version, version_in, header_bytes, start, start_in}
@@ -25,15 +27,16 @@ use Rattle.file.specs.Answer as check
 use Rattle.rules.specs.Reads.{Premise}
 use Rattle.rules.specs.Reduce.{reduce}
 use Rattle.rules.proofs.Theorems.{kept_same_effects, removable_no_effects, yes_unread, at_most_twice, one_deeper, at_most_one, kept_within}
-use Rattle.readings.specs.Node.{settings_given, settings_with}
-use Rattle.readings.specs.Input.{Input}
+use Rattle.readings.specs.Given.{settings_given, settings_with}
+use Rattle.readings.specs.At.{NodeAt, tree_at, tree_is}
+use Rattle.readings.specs.View.{tree}
+use Rattle.readings.specs.declared.node.Node.{Node}
 use Rattle.effects.specs.Answer.{effect_list_given}
 use Rattle.output.specs.Bytes.{Moved, copied_at}
 use Rattle.output.specs.Records.{behind_copied}
-use Rattle.output.specs.Trees.{Wrote, spans_copied}
-use Rattle.reducer.specs.declared.Reduced.TheVariants.{Refused, Removable, Kept}
+use Rattle.output.specs.Trees.{Wrote, spans_copied, wrote_as}
 use Rattle.reducer.specs.Header.{Begun, Counted, begun_version, begun_kept}
-use Rattle.reducer.specs.Given.{GivenTree, ReducedTree}
+use Rattle.reducer.specs.Given.{GivenTree}
 use Rattle.reducer.specs.Answer.{least_output, number, number_by, left, rewritten, answer_list_given, KeptFile, Promised, Answers}
 
 -- An accepted file, and room for its answer.
@@ -93,13 +96,13 @@ unnumbered s room z = go (refusal reduce_limits s) (ltb room (least_output (vers
     go zero b z = refl
     go (suc k) b z = z
 
-pub refused_file : (s : List ℕ) (n : ℕ) {old : List ℕ} → Bytes s → check.refused_by n ≡ check.checked reduce_limits s → Answers s old old (Refused n)
+pub refused_file : (s : List ℕ) (r : Refusal) {old : List ℕ} → Bytes s → check.refused_by (number_of r) ≡ check.checked reduce_limits s → Answers s old old (Err r)
 unfolding number
-refused_file s n {old} bs e = go n (check.checked_refused reduce_limits s n e).0 (check.checked_refused reduce_limits s n e).1
+refused_file s r {old} bs e = go (number_of r) refl (check.checked_refused reduce_limits s (number_of r) e).0 (check.checked_refused reduce_limits s (number_of r) e).1
   where
-    go : (m : ℕ) → refusal reduce_limits s ≡ m → (m ≡ 0 → ⊥) → Answers s old old (Refused m)
-    go zero r z = absurd (z refl)
-    go (suc m) r z = record { answer = rw r; bytes = rw r; promised = λ q. promises s bs (unnumbered s (length old) q) }
+    go : (m : ℕ) → number_of r ≡ m → refusal reduce_limits s ≡ m → (m ≡ 0 → ⊥) → Answers s old old (Err r)
+    go zero n x z = absurd (z refl)
+    go (suc m) n x z = record { answer = rw (x, n); bytes = rw x; promised = λ q. promises s bs (unnumbered s (length old) q) }
 
 -- An accepted file.
 module _ (s : List ℕ) (st n : ℕ) (e : check.accepted_with st n ≡ check.checked reduce_limits s) where
@@ -114,13 +117,6 @@ module _ (s : List ℕ) (st n : ℕ) (e : check.accepted_with st n ≡ check.che
 
   pub least_small : (header_bytes ≤ length s) × (least_output (version_in s) n < 18446744073709551616)
   least_small = (mark_long s (passed reduce_limits s is_zero).mark, start_small (version_in s) (2 * n - 1) (omega (arith, count_few)))
-
-  pub refused_room : Bytes s → {old : List ℕ} → {least : ℕ} → least ≡ least_output (version_in s) n → length old < least → Answers s old old (Refused 9)
-  unfolding number
-  refused_room bs {old} e l =
-      let x : ltb (length old) (least_output (version_in s) (count_of s)) ≡ true =
-      lt-ltb (length old) (least_output (version_in s) (count_of s)) (omega (arith, e, ap (least_output (version_in s)) is_count)) in
-      record { answer = rw (is_zero, x); bytes = rw (is_zero, x); promised = λ q. promises s bs is_zero }
 
   pub file_given : Bytes s → {out : List ℕ} {least : ℕ} → least ≡ least_output (version_in s) n → least ≤ length out → GivenFile s n st out
   file_given bs x l = record { accepted_is = is_zero; count_is = is_count; settings_is = (check.checked_accepted reduce_limits s st n e).1; is_bytes = bs; fits = omega (arith, x) }
@@ -171,50 +167,50 @@ module _ {s : List ℕ} {count settings : ℕ} {old : List ℕ} (g : GivenFile s
   unfolding number
   no_number = rw (g.accepted_is, le-ltb (length old) (least_output (version_in s) (count_of s)) (omega (arith, g.fits, ap (least_output (version_in s)) g.count_is)))
 
-  root_input : Input s 0 count 64 (one (tree_of s))
-  root_input = record {
-    holds = record { stands = file.stands; sized = omega (arith, g.count_is, file.sized) };
-    ok = formed_one (tree_of s) file.permitted.well;
-    low = omega (arith, file.permitted.low);
-    inside = omega (arith, g.count_is, counted_room counted);
-    small = omega (arith, count_bounds);
-  }
+  -- The tree that stands at record 0.
+  pub root_is : tree_at s 0 ≡ tree_of s
+  root_is = tree_is s 0 (tree_of s) file.stands
 
-  pub root_given : {work : List ℕ} → Begun s work → least_output (version_in s) count ≤ length work → GivenTree s 0 count 64 work 0
-  root_given {work} b l = record {
-    tree = tree_of s;
-    input = root_input;
-    same = begun_version b;
-    fits = omega (arith, count_bounds, has_room (version_in s) (length work) (2 * count - 1) l, ap (λ (v : Version). records_of v (length work)) (begun_version b));
-    small = omega (arith, count_bounds);
-  }
+  pub root_stands : NodeAt s 0
+  root_stands = rw root_is (file.stands, omega (arith, g.count_is, counted_room counted, file.sized))
 
-  root_wrote : {work work' : List ℕ} {end : ℕ} → ReducedTree s 0 count 64 (settings_with settings) work work' 0 end → Wrote work work' 0 end (left s)
+  pub root_inside : 0 + 1 ≤ records_in s
+  root_inside = omega (arith, g.count_is, counted_room counted, count_bounds)
+
+  module _ (u : Node) (same_src : u.record.src.now ≡ s) (at_root : tree u ≡ tree_of s) where
+    pub root_given : {work : List ℕ} → Begun s work → least_output (version_in s) count ≤ length work → GivenTree u 64 work 0
+    root_given {work} b l =
+        let z : size (tree u) ≡ count = omega (arith, ap size at_root, g.count_is, file.sized) in
+        record {
+          listable = rw at_root (record { ok = formed_one (tree_of s) file.permitted.well; low = omega (arith, file.permitted.low) });
+          same = begun_version b ∙ ap version_in (sym same_src);
+          fits = omega (arith, z, count_bounds, has_room (version_in s) (length work) (2 * count - 1) l, ap (λ (v : Version). records_of v (length work)) (begun_version b));
+          small = omega (arith, z, count_bounds);
+        }
+
+  pub root_wrote : {work work' : List ℕ} {end : ℕ} → Wrote work work' 0 end (reduce (settings_with settings) (tree_at s 0)) → Wrote work work' 0 end (left s)
   unfolding left
-  root_wrote {work} {work'} {end} a = subst (λ (x : ℕ). Wrote work work' 0 end (reduce (settings_with x) (tree_of s))) g.settings_is (a.by (tree_of s) root_input)
+  root_wrote w = wrote_as w (ap (reduce (settings_with settings)) root_is ∙ ap (λ (x : ℕ). reduce (settings_with x) (tree_of s)) g.settings_is)
 
-  pub end_few : {work work' : List ℕ} {end : ℕ} → ReducedTree s 0 count 64 (settings_with settings) work work' 0 end → end ≤ 2 * count - 1
-  end_few a = omega (arith, (root_wrote a).spans.ends, (promises s g.is_bytes g.accepted_is).few, g.count_is)
+  pub end_few : {work work' : List ℕ} {end : ℕ} → Wrote work work' 0 end (left s) → end ≤ 2 * count - 1
+  end_few a = omega (arith, a.spans.ends, (promises s g.is_bytes g.accepted_is).few, g.count_is)
 
-  pub end_small : {work work' : List ℕ} {end : ℕ} → ReducedTree s 0 count 64 (settings_with settings) work work' 0 end → (header_bytes ≤ length s) × (start_in s end < 18446744073709551616)
+  pub end_small : {work work' : List ℕ} {end : ℕ} → Wrote work work' 0 end (left s) → (header_bytes ≤ length s) × (start_in s end < 18446744073709551616)
   end_small {end = end} a = (header_inside, start_small (version_in s) end (omega (arith, end_few a, count_bounds)))
 
-  pub end_fits_lem : {work work' : List ℕ} {end : ℕ} → ReducedTree s 0 count 64 (settings_with settings) work work' 0 end → start_in s end ≤ least_output (version_in s) count
+  pub end_fits_lem : {work work' : List ℕ} {end : ℕ} → Wrote work work' 0 end (left s) → start_in s end ≤ least_output (version_in s) count
   end_fits_lem {end = end} a = start_le (version_in s) end (2 * count - 1) (end_few a)
 
-  pub removable : {work work' : List ℕ} {end : ℕ} → ReducedTree s 0 count 64 (settings_with settings) work work' 0 end → end ≡ 0 → Answers s old old Removable
+  -- Nothing is left.
+  pub none_left : left s ≡ [] → Answers s old old (Ok None)
   unfolding rewritten
-  removable {work} {work'} {end} a z = go (left s) refl (root_wrote a)
-    where
-      go : (l : List Tree) → left s ≡ l → Wrote work work' 0 end (left s) → Answers s old old Removable
-      go [] x w = record { answer = rw (no_number, x); bytes = rw (no_number, x); promised = λ q. promises s g.is_bytes g.accepted_is }
-      go (t ∷ ts) x w = absurd (omega (arith, w.spans.ends, ap (λ (l : List Tree). records (forest l)) x))
+  none_left e = record { answer = rw (no_number, e); bytes = rw (no_number, e); promised = λ q. promises s g.is_bytes g.accepted_is }
 
   -- What was kept, its header written, is the bytes of the rewritten file.
-  module _ {work mid work' : List ℕ} {end : ℕ} (b : Begun s work) (a : ReducedTree s 0 count 64 (settings_with settings) work mid 0 end) (h : Counted mid work' end) (bs : Bytes work')
+  module _ {work mid work' : List ℕ} {end : ℕ} (b : Begun s work) (a : Wrote work mid 0 end (left s)) (h : Counted mid work' end) (bs : Bytes work')
       (long : start_in s end ≤ length work') where
     header_same : (k : ℕ) → k < 6 → get_or work' k 0 ≡ get_or s k 0
-    header_same k l = h.same k l ∙ (begun_kept b (root_wrote a).frame).same k l
+    header_same k l = h.same k l ∙ (begun_kept b a.frame).same k l
 
     as_wide : version_in work' ≡ version_in s
     as_wide = version_same s work' (header_same 3 (omega arith))
@@ -232,7 +228,7 @@ module _ {s : List ℕ} {count settings : ℕ} {old : List ℕ} (g : GivenFile s
     unfolding file_bytes
     file_is t x =
         let v = version_in s in
-        let w : Wrote work mid 0 end (t ∷ []) = rw x at (root_wrote a) in
+        let w : Wrote work mid 0 end (t ∷ []) = rw x at a in
         let z : end ≡ size t = omega (arith, w.spans.ends) in
         let d = spans_copied 0 w.spans (behind_copied 0 (records (forest (t ∷ []))) (omega arith) h.above) in
         let room : end ≤ records_in work' = rw as_wide (has_room v (length work') end long) in
@@ -246,16 +242,16 @@ module _ {s : List ℕ} {count settings : ℕ} {old : List ℕ} (g : GivenFile s
 
     file_long : (t : Tree) → left s ≡ t ∷ [] → length (file_bytes (version_in s) (settings_of s) t) ≡ start_in s end
     file_long t x =
-        let w : Wrote work mid 0 end (t ∷ []) = rw x at (root_wrote a) in
+        let w : Wrote work mid 0 end (t ∷ []) = rw x at a in
         let z : size t ≡ end = omega (arith, w.spans.ends) in
         length_file (version_in s) (settings_of s) t ∙ ap (start_in s) z
 
-    pub kept : {new : List ℕ} → (end ≡ 0 → ⊥) → {written : ℕ} → written ≡ start_in s end → Moved work' 0 written old new 0 → length new ≡ length old → Answers s old new (Kept written)
+    pub kept : {new : List ℕ} → (end ≡ 0 → ⊥) → {written : ℕ} → written ≡ start_in s end → Moved work' 0 written old new 0 → length new ≡ length old → Answers s old new (Ok (Some written))
     unfolding rewritten
     kept {new} n {written} y m l = go (left s) refl (promises s g.is_bytes g.accepted_is).at_most_one
       where
-        go : (ts : List Tree) → left s ≡ ts → length (left s) ≤ 1 → Answers s old new (Kept written)
-        go [] x o = absurd (n (omega (arith, (root_wrote a).spans.ends, ap (λ (r : List Tree). records (forest r)) x)))
+        go : (ts : List Tree) → left s ≡ ts → length (left s) ≤ 1 → Answers s old new (Ok (Some written))
+        go [] x o = absurd (n (omega (arith, a.spans.ends, ap (λ (r : List Tree). records (forest r)) x)))
         go (t ∷ []) x o =
             let z = file_long t x ∙ sym y in
             record {

@@ -3,11 +3,11 @@ use Rattle.std.specs.Prelude.{◌≡◌, refl, Bool, false, List, [], ◌∷◌,
 use Rattle.std.proofs.Common.{sym, ap, subst, ◌∙◌, arith}
 use Rattle.tree.specs.Tree.{Place, Head, Tree}
 use Rattle.tree.specs.Layout.{version_in}
+use Rattle.readings.specs.declared.node.Node.{Node}
 use Rattle.tree.specs.Room.{records_in}
 use Rattle.tree.specs.Fields.{head_at}
 use Rattle.rules.specs.Made.{place_of, make_template, make_object}
 use Rattle.rules.specs.Reduce.{flush}
-use Rattle.readings.specs.Node.{Tells}
 use Rattle.output.specs.Records.{before_all}
 use Rattle.output.specs.Trees.{Spans, Wrote, wrote_none, spans_append, spans_kept}
 use Rattle.rewrite.specs.Waiting.{Waits, GivenWaiting, Flushed, waits_none}
@@ -33,13 +33,12 @@ pub record SettlesKept (old new : List ℕ) (slot next end slot' next' : ℕ) : 
   pub by : (w : List Tree) → Waits old slot next w → (r : List Tree) → Spans old next end r → Stepped old new slot slot' next' (settled_kept w r)
   pub few : next' ≤ end
 
-pub record GivenSettle (s : List ℕ) (at : ℕ) (out : List ℕ) (slot next end : ℕ) : Type 0 where
-  pub node_inside : at + 1 ≤ records_in s
-  pub same : version_in out ≡ version_in s
+pub record GivenSettle (u : Node) (out : List ℕ) (slot next end : ℕ) : Type 0 where
+  pub same : version_in out ≡ version_in u.record.src.now
   pub list : GivenSettled out slot next end
 
-pub record Settles (s : List ℕ) (at : ℕ) (part : Part) (old new : List ℕ) (slot next end slot' next' : ℕ) : Type 0 where
-  pub by : (t : Tree) → head_at s at ≡ t.head → (w : List Tree) → Waits old slot next w → (r : List Tree) → Spans old next end r → Stepped old new slot slot' next' (settled part t w r)
+pub record Settles (t : Tree) (part : Part) (old new : List ℕ) (slot next end slot' next' : ℕ) : Type 0 where
+  pub by : (w : List Tree) → Waits old slot next w → (r : List Tree) → Spans old next end r → Stepped old new slot slot' next' (settled part t w r)
   pub few : next' ≤ end
 
 pub settled_waiting : {out : List ℕ} {slot next end : ℕ} → GivenSettled out slot next end → GivenWaiting out slot next
@@ -71,34 +70,27 @@ module _ {old : List ℕ} {slot next end : ℕ} where
             waiting = waits_none new end;
           }
 
-module _ {s : List ℕ} {at : ℕ} {old : List ℕ} {slot next end : ℕ} where
-  pub settled_object : {new : List ℕ} {place : Place} → GivenSettled old slot next end → place ≡ (head_at s at).place → Flushed make_object old new slot next place → Settles s at Object old new slot next end end end
-  settled_object {new} {place} g ep f = record { by = λ t h w x r d. go t (ep ∙ ap (λ (y : Head). y.place) h) w x r d; few = omega arith }
+module _ {t : Tree} {old : List ℕ} {slot next end : ℕ} where
+  pub settled_object : {new : List ℕ} {place : Place} → GivenSettled old slot next end → place ≡ t.head.place → Flushed make_object old new slot next place → Settles t Object old new slot next end end end
+  settled_object {new} {place} g ep f = record { by = go; few = omega arith }
     where
-      go : (t : Tree) → place ≡ t.head.place → (w : List Tree) → Waits old slot next w → (r : List Tree) → Spans old next end r → Stepped old new slot end end (settled Object t w r)
-      go t p w x r d =
-          let y : Wrote old new slot next (flush make_object (place_of t) w) = subst (λ (q : Place). Wrote old new slot next (flush make_object q w)) p (f.by w x) in
+      go : (w : List Tree) → Waits old slot next w → (r : List Tree) → Spans old next end r → Stepped old new slot end end (settled Object t w r)
+      go w x r d =
+          let y : Wrote old new slot next (flush make_object (place_of t) w) = subst (λ (q : Place). Wrote old new slot next (flush make_object q w)) ep (f.by w x) in
           record {
             done = record { spans = spans_append (flush make_object (place_of t) w) r y.spans (spans_kept d f.above (omega arith)); frame = y.frame };
             waiting = waits_none new end;
           }
 
   module _ {new : List ℕ} {slot' next' : ℕ} (k : SettlesKept old new slot next end slot' next') where
-    pub settled_in_order : Settles s at InOrder old new slot next end slot' next'
-    settled_in_order = record { by = λ t h. k.by; few = k.few }
+    pub settled_in_order : Settles t InOrder old new slot next end slot' next'
+    settled_in_order = record { by = k.by; few = k.few }
 
-    pub settled_argument : Settles s at Argument old new slot next end slot' next'
-    settled_argument = record { by = λ t h. k.by; few = k.few }
+    pub settled_argument : Settles t Argument old new slot next end slot' next'
+    settled_argument = record { by = k.by; few = k.few }
 
-    pub settled_template : Settles s at Template old new slot next end slot' next'
-    settled_template = record { by = λ t h. k.by; few = k.few }
+    pub settled_template : Settles t Template old new slot next end slot' next'
+    settled_template = record { by = k.by; few = k.few }
 
-  pub settles_as : {new : List ℕ} {slot' next' : ℕ} (part : Part) {q : Part} → part ≡ q → Settles s at q old new slot next end slot' next' → Settles s at part old new slot next end slot' next'
-  settles_as {new} {slot'} {next'} part e w = subst (λ (x : Part). Settles s at x old new slot next end slot' next') (sym e) w
-
--- What is said of a child, for the part that the match found.
-pub told_for : (f : Part → Tree → Bool) {s : List ℕ} {at : ℕ} {r : Bool} (part : Part) {q : Part} → part ≡ q → Tells s at (f q) r → Tells s at (f part) r
-told_for f {s} {at} {r} part e w = subst (λ (x : Part). Tells s at (f x) r) (sym e) w
-
-pub told_never : {s : List ℕ} {at : ℕ} → Tells s at (λ t. false) false
-told_never = record { by = λ t n. refl }
+  pub settles_as : {new : List ℕ} {slot' next' : ℕ} (part : Part) {q : Part} → part ≡ q → Settles t q old new slot next end slot' next' → Settles t part old new slot next end slot' next'
+  settles_as {new} {slot'} {next'} part e w = subst (λ (x : Part). Settles t x old new slot next end slot' next') (sym e) w

@@ -7,6 +7,8 @@ use Rattle.rules.specs.Facts.{possible_symbol}
 use Rattle.rules.specs.Made.{place_of, make_template, make_object}
 use Rattle.rules.specs.Reduce.{flush, fold_argument, reduce}
 use Rattle.rules.specs.Results.{reduced}
+use Rattle.handlers.specs.declared.outcome.Rewrite.{Rewrite}
+use Rattle.handlers.specs.declared.outcome.Rewrite.TheVariants as rewrites
 use Rattle.reducer.specs.declared.walk.Part.{Part}
 use Rattle.reducer.specs.declared.walk.Part.TheVariants.{InOrder, Argument, Template, Object}
 
@@ -14,6 +16,14 @@ use Rattle.reducer.specs.declared.walk.Part.TheVariants.{InOrder, Argument, Temp
 pub record Progress : Type 0 where
   pub done : List Tree
   pub waiting : List Tree
+
+-- What a node that is rewritten asks of its children.
+abbrev pub part_under : Rewrite → Part
+part_under rewrites.Sequence = InOrder
+part_under rewrites.Array = InOrder
+part_under rewrites.Template = Template
+part_under rewrites.Object = Object
+part_under rewrites.Comparison = InOrder
 
 -- "a possible symbol waits unreduced"; "adjacent spreads, flagged or not, wait"
 abbrev pub waits : Part → Tree → Bool

@@ -1,35 +1,22 @@
 // The end of a list whose trees may wait: "the rest wait until the end", and then make a node at their parent's place.
 ghost use Rattle.rules.specs.Made.{make_template, make_object};
+ghost use Rattle.readings.specs.View.{tree};
 ghost use Rattle.reducer.specs.Close.{GivenWalked, Closes};
 
-pub fn close_template(
-    src: &[u8],
-    at: usize,
-    out: &mut [u8],
-    pos: usize,
-    slot: usize,
-    end: usize,
-) -> usize
-    requires { GivenWalked src.now at out.old pos slot end }
-    ensures { Closes make_template src.now at out.old out.new pos slot end result }
+use readings::Node;
+
+pub fn close_template(node: Node, out: &mut [u8], pos: usize, slot: usize, end: usize) -> usize
+    requires { GivenWalked node out.old pos slot end }
+    ensures { Closes make_template (tree node.entry) out.old out.new pos slot end result }
 {
-    let place = fields::place_at(src, at);
-    rewrite::flush_template(out, slot, end, place);
-    rewrite::none_one_several(src, at, out, pos, end)
+    rewrite::flush_template(out, slot, end, node.record.place());
+    rewrite::none_one_several(node, out, pos, end)
 }
 
-pub fn close_object(
-    src: &[u8],
-    at: usize,
-    out: &mut [u8],
-    pos: usize,
-    slot: usize,
-    end: usize,
-) -> usize
-    requires { GivenWalked src.now at out.old pos slot end }
-    ensures { Closes make_object src.now at out.old out.new pos slot end result }
+pub fn close_object(node: Node, out: &mut [u8], pos: usize, slot: usize, end: usize) -> usize
+    requires { GivenWalked node out.old pos slot end }
+    ensures { Closes make_object (tree node.entry) out.old out.new pos slot end result }
 {
-    let place = fields::place_at(src, at);
-    rewrite::flush_object(out, slot, end, place);
-    rewrite::none_one_several(src, at, out, pos, end)
+    rewrite::flush_object(out, slot, end, node.record.place());
+    rewrite::none_one_several(node, out, pos, end)
 }

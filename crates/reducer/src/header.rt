@@ -1,5 +1,5 @@
 // The header of a rewritten file. It says how wide the records are, so it comes before them, but for their count.
-ghost use Rattle.std.specs.Prelude.{◌<◌, ◌≤◌, length};
+ghost use Rattle.std.specs.Prelude.{◌≤◌, length};
 ghost use Rattle.tree.specs.Layout.{header_bytes};
 ghost use Rattle.reducer.specs.Header.{Begun, Counted};
 
@@ -12,8 +12,8 @@ pub fn copy_header(src: &[u8], out: &mut [u8])
 }
 
 // The record count.
-pub fn write_count(out: &mut [u8], n: usize)
-    requires { (header_bytes ≤ length out.old) × (n < 65536) }
+pub fn write_count(out: &mut [u8], n: u16)
+    requires { header_bytes ≤ length out.old }
     ensures { Counted out.old out.new n }
 {
     le::put16(out, 6, n);

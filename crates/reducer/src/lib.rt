@@ -8,86 +8,72 @@ mod walk;
 
 ghost use Rattle.std.specs.Prelude.{◌≡◌, ◌≤◌, length};
 ghost use Rattle.tree.specs.Layout.{version_in};
-ghost use Rattle.reducer.specs.Answer.{least_output, Answers};
+ghost use Rattle.reducer.specs.Answer.{least_output, most_output, Answers};
 ghost use Rattle.reducer.specs.Run.{GivenFile};
 
-use file::Checked;
+use fields::Record;
+use file::{Accepted, Limits};
+use readings::{Node, Settings};
+use refusal::Refusal;
 
 // The output that any file's answer fits: a file of 3,999 records of version 2, which 2,000 may become.
 pub const MOST_OUTPUT: usize = 79988;
 
-#[derive(Drop)]
-pub enum Reduced {
-    // The number of the first refusal that applies; no byte of the output has changed.
-    Refused(u8),
-    // Nothing is left, and no byte of the output has changed.
-    Removable,
-    // The length of the rewritten file: the first bytes of the output are it, and no other byte has changed.
-    Kept(usize),
-}
-
-// Reduces the tree file src into out.
+// Reduces the tree file src into out. The value is the length of the rewritten file: the first bytes of the output are it, and no other
+// byte has changed. There is none where nothing is left, and no byte has changed then. An error is the first refusal that applies, and
+// no byte has changed either.
 #[tactic(auto, using(crate::proofs::Early::short_number))]
-pub fn reduce(src: &[u8], out: &mut [u8]) -> Reduced
+pub fn reduce(src: &[u8], out: &mut [u8]) -> Result<Option<usize>, Refusal>
     ensures { Answers src.now out.old out.new result }
 {
-    let checked = file::check(
-        src,
-        file::REDUCE_RECORDS,
-        file::REDUCE_DEPTH,
-        file::REDUCE_LOGICALS,
-    );
-    match checked {
-        Checked::Refused(number) => Reduced::Refused(number),
-        Checked::Accepted { settings, count } => {
-            let least = fields::file_length(src, 2 * count - 1);
-            if out.len() < least {
-                return Reduced::Refused(9);
-            }
-            reduce_by_size(src, count, settings, least, out)
-        }
+    let header = file::check(src, Limits::REDUCE)?;
+    let least = fields::file_length(src, 2 * header.count - 1);
+    if out.len() < least {
+        return Err(Refusal::Output);
     }
+    Ok(reduce_by_size(src, header, least, out))
 }
 
 // What is left is worked out in a buffer of its own, since a list may turn out shorter than the records left free for it, and then
 // copied. The buffer is the smallest of three that has room: to fill the largest would cost a small tree more than its reduction. Of
 // version 1 they have room for 63, 511 and 3,999 records and more, which 32, 256 and 2,000 may become.
-fn reduce_by_size(src: &[u8], count: usize, settings: u8, least: usize, out: &mut [u8]) -> Reduced
-    requires { GivenFile src.now count settings out.old × (least ≡ least_output (version_in src.now) count) }
-    ensures { Answers src.now out.old out.new result }
+fn reduce_by_size(src: &[u8], header: Accepted, least: usize, out: &mut [u8]) -> Option<usize>
+    requires { GivenFile src.now header.count header.settings out.old × (least ≡ least_output (version_in src.now) header.count) }
+    ensures { Answers src.now out.old out.new (Ok result) }
 {
-    if least <= 1016 {
-        let mut work = [0u8; 1016];
-        return reduce_in(src, count, settings, &mut work, out);
+    match least {
+        ..=1016 => reduce_within::<1016>(src, header, out),
+        ..=8184 => reduce_within::<8184>(src, header, out),
+        _ => reduce_within::<MOST_OUTPUT>(src, header, out),
     }
-    if least <= 8184 {
-        let mut work = [0u8; 8184];
-        return reduce_in(src, count, settings, &mut work, out);
-    }
-    let mut work = [0u8; MOST_OUTPUT];
-    reduce_in(src, count, settings, &mut work, out)
 }
 
-#[tactic(auto, using(crate::proofs::Early::no_number, crate::proofs::Early::left_none, crate::proofs::Early::rewritten_none, crate::proofs::Early::same_effects))]
-fn reduce_in(src: &[u8], count: usize, settings: u8, work: &mut [u8], out: &mut [u8]) -> Reduced
-    requires { GivenFile src.now count settings out.old × (least_output (version_in src.now) count ≤ length work.old) }
-    ensures { Answers src.now out.old out.new result }
+// In a buffer of N bytes.
+fn reduce_within<const N: usize>(src: &[u8], header: Accepted, out: &mut [u8]) -> Option<usize>
+    requires { GivenFile src.now header.count header.settings out.old × (least_output (version_in src.now) header.count ≤ N) × (N ≤ most_output) }
+    ensures { Answers src.now out.old out.new (Ok result) }
+{
+    let mut work = [0u8; N];
+    reduce_in(src, header, &mut work, out)
+}
+
+fn reduce_in(src: &[u8], header: Accepted, work: &mut [u8], out: &mut [u8]) -> Option<usize>
+    requires { GivenFile src.now header.count header.settings out.old × (least_output (version_in src.now) header.count ≤ length work.old) }
+    ensures { Answers src.now out.old out.new (Ok result) }
 {
     header::copy_header(src, work);
-    let end = expression::remove_unused_expression(
-        src,
-        0,
-        count,
-        file::REDUCE_DEPTH,
-        settings,
-        work,
-        0,
-    );
+    let record = Record { src, at: 0 };
+    let settings = Settings {
+        byte: header.settings,
+        yes: &[],
+    };
+    let depth = Limits::REDUCE.depth;
+    let end = expression::remove_unused_expression(Node { record }, depth, settings, work, 0);
     if end == 0 {
-        return Reduced::Removable;
+        return None;
     }
-    header::write_count(work, end);
+    header::write_count(work, end as u16);
     let length = fields::file_length(src, end);
     output::copy_bytes(work, 0, length, out, 0);
-    Reduced::Kept(length)
+    Some(length)
 }

@@ -1,11 +1,12 @@
 // What is left of a list of children, child by child, as the parent asks for it.
-ghost use Rattle.std.specs.Prelude.{◌+◌, ◌≤◌};
-ghost use Rattle.tree.specs.Room.{records_in};
-ghost use Rattle.readings.specs.Node.{SomeNode, Tells};
-ghost use Rattle.reducer.specs.Walked.{waits, wraps};
+ghost use Rattle.std.specs.Prelude.{◌≡◌};
+ghost use Rattle.readings.specs.View.{tree};
+ghost use Rattle.reducer.specs.Walked.{part_under, waits, wraps};
 ghost use Rattle.reducer.specs.Settled.{GivenSettled, SettlesKept, GivenSettle, Settles};
 
-use fields::kind;
+use fields::{Kind, Record};
+use handlers::outcome::Rewrite;
+use readings::Node;
 
 // What a child is to its parent.
 #[derive(Clone, Copy)]
@@ -20,34 +21,37 @@ pub enum Part {
 }
 
 // Where the trees that are settled end, and where those that wait behind a free record end: next is slot if none wait.
-#[derive(Drop)]
+#[derive(Clone, Copy)]
 pub struct Walked {
     pub slot: usize,
     pub next: usize,
 }
 
-pub fn waits_at(src: &[u8], at: usize, part: Part) -> bool
-    requires { SomeNode src.now at }
-    ensures { Tells src.now at (waits part) result }
+// What a node that is rewritten asks of its children.
+pub fn part_under(made: Rewrite) -> Part
+    ensures { result ≡ part_under made }
 {
-    match part {
-        Part::InOrder => false,
-        Part::Argument => false,
-        Part::Template => readings::possible_symbol_at(src, at),
-        Part::Object => fields::kind_at(src, at) == kind::SPREAD,
+    match made {
+        Rewrite::Sequence | Rewrite::Array | Rewrite::Comparison => Part::InOrder,
+        Rewrite::Template => Part::Template,
+        Rewrite::Object => Part::Object,
     }
 }
 
-pub fn wraps_at(src: &[u8], at: usize, part: Part) -> bool
-    requires { at + 1 ≤ records_in src.now }
-    ensures { Tells src.now at (wraps part) result }
+pub fn waits(node: Node, part: Part) -> bool
+    ensures { result ≡ waits part (tree node.entry) }
 {
     match part {
-        Part::InOrder => false,
-        Part::Argument => fields::kind_at(src, at) == kind::SPREAD,
-        Part::Template => false,
-        Part::Object => false,
+        Part::InOrder | Part::Argument => false,
+        Part::Template => node.possible_symbol(),
+        Part::Object => node.is_kind(Kind::Spread),
     }
+}
+
+pub fn wraps(node: Node, part: Part) -> bool
+    ensures { result ≡ wraps part (tree node.entry) }
+{
+    matches!(part, Part::Argument) && node.is_kind(Kind::Spread)
 }
 
 // Of another parent than an object. Only in a template any wait; elsewhere slot is next, and nothing is made.
@@ -58,7 +62,7 @@ fn settle_kept(out: &mut [u8], slot: usize, next: usize, end: usize) -> Walked
     if end == next {
         return Walked { slot, next };
     }
-    let place = fields::place_at(out, next);
+    let place = Record { src: out, at: next }.place();
     rewrite::flush_template(out, slot, next, place);
     Walked {
         slot: end,
@@ -66,26 +70,23 @@ fn settle_kept(out: &mut [u8], slot: usize, next: usize, end: usize) -> Walked
     }
 }
 
-// What is left of the child at record at stands from record next to record end: what waits before it waits no more, but goes on
-// waiting in a template of whose child nothing is left.
+// What is left of the child stands from record next to record end: what waits before it waits no more, but goes on waiting in a
+// template of whose child nothing is left.
 pub fn settle(
-    src: &[u8],
-    at: usize,
+    node: Node,
     part: Part,
     out: &mut [u8],
     slot: usize,
     next: usize,
     end: usize,
 ) -> Walked
-    requires { GivenSettle src.now at out.old slot next end }
-    ensures { Settles src.now at part out.old out.new slot next end result.slot result.next }
+    requires { GivenSettle node out.old slot next end }
+    ensures { Settles (tree node.entry) part out.old out.new slot next end result.slot result.next }
 {
     match part {
-        Part::InOrder => settle_kept(out, slot, next, end),
-        Part::Argument => settle_kept(out, slot, next, end),
-        Part::Template => settle_kept(out, slot, next, end),
+        Part::InOrder | Part::Argument | Part::Template => settle_kept(out, slot, next, end),
         Part::Object => {
-            rewrite::flush_object(out, slot, next, fields::place_at(src, at));
+            rewrite::flush_object(out, slot, next, node.record.place());
             Walked {
                 slot: end,
                 next: end,

@@ -6,10 +6,7 @@
 // Of the input the first 655,360 bytes are read.
 #![tactic(auto)]
 
-ghost use Rattle.std.specs.Prelude.{◌<◌};
-
-use cases::Next;
-use reducer::Reduced;
+use cases::{Case, Cases};
 use std::io::Stdout;
 
 // What stands before the file of a case.
@@ -22,107 +19,68 @@ fn main(rt: HostRuntime) {
 }
 
 fn reduce_files(stdout: &mut Stdout, input: &[u8]) {
-    let mut at = 0;
-    loop {
-        let next = cases::next_case(input, at, HEAD);
-        let Next::File { start, end } = next else {
-            return;
-        };
-        let lent = le::get16(input, at + 2);
-        let fill = input[at + 4];
-        reduce_file(stdout, &input[start..end], lent, fill);
-        at = end;
+    for Case { head, file } in Cases::new(input, HEAD) {
+        reduce_file(stdout, file, le::get16(head, 2), head[4]);
     }
 }
 
 // The array is as long as the most that two bytes can ask for.
-fn reduce_file(stdout: &mut Stdout, src: &[u8], lent: usize, fill: u8)
-    requires { lent < 65536 }
-{
+fn reduce_file(stdout: &mut Stdout, src: &[u8], lent: u16, fill: u8) {
     let mut space = [fill; 65535];
-    print_reduced(stdout, src, &mut space[..lent], fill);
+    print_reduced(stdout, src, &mut space[..usize::from(lent)], fill);
 }
 
 fn print_reduced(stdout: &mut Stdout, src: &[u8], out: &mut [u8], fill: u8) {
-    let reduced = reducer::reduce(src, out);
-    match reduced {
-        Reduced::Refused(number) => {
-            print_number(stdout, b"refused ", number as u64);
-            print_tail(stdout, out, fill);
+    match reducer::reduce(src, out) {
+        Ok(Some(length)) => {
+            streams::print_number(stdout, b"kept ", length as u64);
+            let (file, tail) = out.split_at(length);
+            print_file(stdout, file);
+            print_tail(stdout, tail, fill);
         }
-        Reduced::Removable => {
+        Ok(None) => {
             streams::write_all(stdout, b"removable\n");
             print_tail(stdout, out, fill);
         }
-        Reduced::Kept(length) => {
-            print_number(stdout, b"kept ", length as u64);
-            print_file(stdout, &out[..length]);
-            print_tail(stdout, &out[length..], fill);
+        Err(refusal) => {
+            streams::print_number(stdout, b"refused ", u64::from(refusal.number()));
+            print_tail(stdout, out, fill);
         }
     }
 }
 
-fn print_file(stdout: &mut Stdout, bytes: &[u8]) {
-    let ends = has_ends(bytes);
-    let mut i = 0;
-    while i < bytes.len() {
-        print_byte(stdout, bytes[i]);
-        i += 1;
-        if ends_line(i, ends) {
-            streams::write_all(stdout, b"\n");
-        }
+#[tactic(auto, using(tree::specs::Room::fields_within))]
+fn print_file(stdout: &mut Stdout, file: &[u8]) {
+    let Some((header, records)) = file.split_at_checked(fields::HEADER_BYTES) else {
+        return;
+    };
+    print_bytes(stdout, header);
+    for record in records.chunks(fields::width_of(header)) {
+        print_bytes(stdout, record);
     }
 }
 
-// Whether the records of a file have an end, as those of version 2 do.
-fn has_ends(bytes: &[u8]) -> bool {
-    if bytes.len() < 8 {
-        return false;
+// A line of two hexadecimal digits a byte.
+fn print_bytes(stdout: &mut Stdout, bytes: &[u8]) {
+    for byte in bytes {
+        print_byte(stdout, *byte);
     }
-    bytes[3] == 2
+    streams::write_all(stdout, b"\n");
 }
 
-// Whether a file's first i bytes are its header, or that and whole records.
-fn ends_line(i: usize, ends: bool) -> bool {
-    if i < 8 {
-        return false;
-    }
-    if ends {
-        return (i - 8) % 20 == 0;
-    }
-    (i - 8) % 16 == 0
-}
-
-// In two hexadecimal digits.
 fn print_byte(stdout: &mut Stdout, byte: u8) {
     let digits = b"0123456789abcdef";
-    let text = [digits[(byte / 16) as usize], digits[(byte % 16) as usize]];
+    let text = [
+        digits[usize::from(byte / 16)],
+        digits[usize::from(byte % 16)],
+    ];
     streams::write_all(stdout, &text);
 }
 
-// The lent bytes behind the answer.
+// The lent bytes behind the answer, and how many of them are not the byte that all of them held before.
 fn print_tail(stdout: &mut Stdout, tail: &[u8], fill: u8) {
+    let changed = tail.iter().filter(|byte| **byte != fill).count();
     streams::write_all(stdout, b"tail ");
     streams::print_decimal(stdout, tail.len() as u64);
-    print_number(stdout, b" ", changed(tail, fill));
-}
-
-// How many bytes are not the one that all of them held before.
-fn changed(tail: &[u8], fill: u8) -> u64 {
-    let mut count = 0;
-    let mut i = 0;
-    while i < tail.len() {
-        let byte = tail[i];
-        i += 1;
-        if byte != fill {
-            count += 1;
-        }
-    }
-    count
-}
-
-fn print_number(stdout: &mut Stdout, word: &[u8], number: u64) {
-    streams::write_all(stdout, word);
-    streams::print_decimal(stdout, number);
-    streams::write_all(stdout, b"\n");
+    streams::print_number(stdout, b" ", changed as u64);
 }

@@ -5,10 +5,9 @@
 // `different` and how many of them differ; or `no list` where the mark is another. Of the input the first 655,360 bytes are read.
 #![tactic(auto)]
 
-ghost use Rattle.std.specs.Prelude.{◌≤◌, length};
+ghost use Rattle.std.specs.Prelude.{length};
+ghost use Rattle.std.specs.Iterator.{at_most};
 
-use cases::Next;
-use reducer::Reduced;
 use std::io::Stdout;
 
 // What stands before the first case.
@@ -21,70 +20,52 @@ fn main(rt: HostRuntime) {
 }
 
 fn replay_list(stdout: &mut Stdout, input: &[u8]) {
-    if input.len() >= HEAD && begins_with(input, b"UXTL") {
-        replay_cases(stdout, input);
+    if let Some((head, list)) = input.split_at_checked(HEAD)
+        && head.starts_with(b"UXTL")
+    {
+        replay_cases(stdout, list);
     } else {
         streams::write_all(stdout, b"no list\n");
     }
 }
 
-fn replay_cases(stdout: &mut Stdout, input: &[u8])
-    requires { 8 ≤ length input.now }
-{
-    let mut at = HEAD;
+fn replay_cases(stdout: &mut Stdout, list: &[u8]) {
     let mut cases = 0;
     let mut different = 0;
-    loop {
-        let file = cases::next_part(input, at);
-        let Next::File { start, end } = file else {
-            break;
-        };
-        let answer = cases::next_part(input, end);
-        let Next::File {
-            start: first,
-            end: last,
-        } = answer
-        else {
-            break;
-        };
+    for (file, answer) in Answered(list) {
         cases += 1;
-        if !reduces_to(&input[start..end], &input[first..last]) {
-            print_number(stdout, b"differs ", cases);
+        if !reduces_to(file, answer) {
+            streams::print_number(stdout, b"differs ", cases);
             different += 1;
         }
-        at = last;
     }
-    print_number(stdout, b"cases ", cases);
-    print_number(stdout, b"different ", different);
+    streams::print_number(stdout, b"cases ", cases);
+    streams::print_number(stdout, b"different ", different);
+}
+
+// The cases of a list, each a file and its answer, up to the first that is cut short.
+#[derive(Drop)]
+struct Answered<'a>(&'a [u8]);
+
+impl<'a> Iterator for Answered<'a> {
+    type Item = (&'a [u8], &'a [u8]);
+
+    ghost remaining = { λ list. at_most (length list.0.now) };
+
+    fn next(&mut self) -> Option<(&'a [u8], &'a [u8])> {
+        let (file, rest) = cases::next_part(self.0)?;
+        let (answer, rest) = cases::next_part(rest)?;
+        self.0 = rest;
+        Some((file, answer))
+    }
 }
 
 // The array has room for what any file that is taken is reduced to.
 fn reduces_to(src: &[u8], answer: &[u8]) -> bool {
     let mut out = [0u8; reducer::MOST_OUTPUT];
-    let reduced = reducer::reduce(src, &mut out);
-    match reduced {
-        Reduced::Refused(_) => false,
-        Reduced::Removable => answer.len() == 0,
-        Reduced::Kept(length) => length == answer.len() && begins_with(&out, answer),
+    match reducer::reduce(src, &mut out) {
+        Ok(Some(length)) => &out[..length] == answer,
+        Ok(None) => answer.is_empty(),
+        Err(_) => false,
     }
-}
-
-fn begins_with(bytes: &[u8], first: &[u8]) -> bool {
-    if bytes.len() < first.len() {
-        return false;
-    }
-    let mut i = 0;
-    while i < first.len() {
-        if bytes[i] != first[i] {
-            return false;
-        }
-        i += 1;
-    }
-    true
-}
-
-fn print_number(stdout: &mut Stdout, word: &[u8], number: u64) {
-    streams::write_all(stdout, word);
-    streams::print_decimal(stdout, number);
-    streams::write_all(stdout, b"\n");
 }

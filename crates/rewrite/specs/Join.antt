@@ -15,6 +15,8 @@ use Rattle.output.specs.Records.{MovedRecords, before_less, before_trans, before
 use Rattle.output.specs.Trees.{Spans, Wrote, wrote_as, spans_append, stands_copied}
 use Rattle.output.specs.Lists.{first_spans, rest_spans}
 use Rattle.rewrite.specs.Made.{GivenMade, Makes}
+use Rattle.readings.specs.View.{tree}
+use Rattle.readings.specs.declared.node.Node.{Node}
 use Rattle.rewrite.specs.Becomes.{GivenList, Becomes, none_one_several_of, join_kept_of}
 use Rattle.tree.specs.Kind as kind
 
@@ -64,12 +66,6 @@ module _ {old mid : List ℕ} {pos second end : ℕ} (n : ℕ) where
 module _ {old : List ℕ} {pos second end : ℕ} where
   pair_bounds : (g : GivenPair old pos second end) → (pos + 1 < second) × (second < end) × (end ≤ records_in old)
   pair_bounds g = omega (arith, g.pair.left.ends, g.pair.right.ends, g.inside)
-
-  pub pair_first : GivenPair old pos second end → pos + 1 < second
-  pair_first g = (pair_bounds g).0
-
-  pub pair_second : GivenPair old pos second end → second < end
-  pair_second g = (pair_bounds g).1
 
   -- The left side is a sequence: its record is moved over.
   module _ {mid : List ℕ} (n : ℕ) (en : n ≡ end - (pos + 1) - 1) (m : MovedRecords old (pos + 1 + 1) n old mid (pos + 1)) where
@@ -151,17 +147,17 @@ module _ {old : List ℕ} (pos : ℕ) {end : ℕ} (z : ℕ) (ez : z ≡ subtree_
   second_size v ev x y ys d = ev ∙ (rw (← ez) at (rest_spans x (y ∷ ys) d)).stands.2
 
 -- The list by the sizes of its first and second tree.
-module _ {s : List ℕ} {at : ℕ} {old : List ℕ} {pos end z : ℕ} (ez : z ≡ subtree_at old (pos + 1)) (n : end ≡ pos + 1 → ⊥) where
-  pub join_one : pos + 1 + z ≡ end → {new : List ℕ} {r : ℕ} → Becomes none_one_several_of s at old new pos end r → Becomes join_kept_of s at old new pos end r
-  join_one e {new} {r} w = record { by = λ t h ts d. go t h ts d }
+module _ {u : Node} {old : List ℕ} {pos end z : ℕ} (ez : z ≡ subtree_at old (pos + 1)) (n : end ≡ pos + 1 → ⊥) where
+  pub join_one : pos + 1 + z ≡ end → {new : List ℕ} {r : ℕ} → Becomes none_one_several_of u old new pos end r → Becomes join_kept_of u old new pos end r
+  join_one e {new} {r} w = record { by = go }
     where
-      go : (t : Tree) → head_at s at ≡ t.head → (ts : List Tree) → Spans old (pos + 1) end ts → Wrote old new pos r (join_kept (place_of t) ts)
-      go t h [] d = w.by t h [] d
-      go t h (x ∷ []) d = w.by t h (x ∷ []) d
-      go t h (x ∷ y ∷ ys) d = absurd (omega (arith, d.ends, d.stands.2))
+      go : (ts : List Tree) → Spans old (pos + 1) end ts → Wrote old new pos r (join_kept (place_of (tree u)) ts)
+      go [] d = w.by [] d
+      go (x ∷ []) d = w.by (x ∷ []) d
+      go (x ∷ y ∷ ys) d = absurd (omega (arith, d.ends, d.stands.2))
 
   module _ (ne : pos + 1 + z ≡ end → ⊥) where
-    pub second_inside : GivenList s at old pos end → pos + 1 + z + 1 ≤ records_in old
+    pub second_inside : GivenList u old pos end → pos + 1 + z + 1 ≤ records_in old
     second_inside g = go g.list g.spans
       where
         go : (ts : List Tree) → Spans old (pos + 1) end ts → pos + 1 + z + 1 ≤ records_in old
@@ -170,29 +166,29 @@ module _ {s : List ℕ} {at : ℕ} {old : List ℕ} {pos end z : ℕ} (ez : z �
         go (x ∷ y ∷ ys) d = omega (arith, d.ends, d.stands.2, g.inside)
 
     module _ (v : ℕ) (ev : v ≡ subtree_at old (pos + 1 + z)) where
-      pub pair_given : pos + 1 + z + v ≡ end → GivenList s at old pos end → GivenPair old pos (pos + 1 + z) end
+      pub pair_given : pos + 1 + z + v ≡ end → GivenList u old pos end → GivenPair old pos (pos + 1 + z) end
       pair_given e g = go g.list g.spans
         where
           go : (ts : List Tree) → Spans old (pos + 1) end ts → GivenPair old pos (pos + 1 + z) end
           go [] d = absurd (n (omega (arith, d.ends)))
           go (x ∷ []) d = absurd (ne (omega (arith, d.ends, d.stands.2)))
           go (x ∷ y ∷ []) d = record { a = x; b = y; pair = pair_of pos z ez x y d; inside = g.inside; small = g.small }
-          go (x ∷ y ∷ u ∷ us) d = absurd (omega (arith, d.ends, d.stands.2, second_size pos z ez v ev x y (u ∷ us) d))
+          go (x ∷ y ∷ c ∷ cs) d = absurd (omega (arith, d.ends, d.stands.2, second_size pos z ez v ev x y (c ∷ cs) d))
 
-      pub join_two : pos + 1 + z + v ≡ end → {new : List ℕ} {place : Place} {r : ℕ} → place ≡ (head_at s at).place → Joins old new pos (pos + 1 + z) end place r → Becomes join_kept_of s at old new pos end r
-      join_two e {new} {place} {r} ep w = record { by = λ t h ts d. go t (ep ∙ ap (λ (x : Head). x.place) h) ts d }
+      pub join_two : pos + 1 + z + v ≡ end → {new : List ℕ} {place : Place} {r : ℕ} → place ≡ (tree u).head.place → Joins old new pos (pos + 1 + z) end place r → Becomes join_kept_of u old new pos end r
+      join_two e {new} {place} {r} ep w = record { by = λ ts d. go (tree u) ep ts d }
         where
           go : (t : Tree) → place ≡ t.head.place → (ts : List Tree) → Spans old (pos + 1) end ts → Wrote old new pos r (join_kept (place_of t) ts)
           go t p [] d = absurd (n (omega (arith, d.ends)))
           go t p (x ∷ []) d = absurd (ne (omega (arith, d.ends, d.stands.2)))
           go t p (x ∷ y ∷ []) d = wrote_as (w.by x y (pair_of pos z ez x y d)) (ap (λ (q : Place). join_sequence q x y ∷ []) p)
-          go t p (x ∷ y ∷ u ∷ us) d = absurd (omega (arith, d.ends, d.stands.2, second_size pos z ez v ev x y (u ∷ us) d))
+          go t p (x ∷ y ∷ c ∷ cs) d = absurd (omega (arith, d.ends, d.stands.2, second_size pos z ez v ev x y (c ∷ cs) d))
 
-      pub join_several : (pos + 1 + z + v ≡ end → ⊥) → {new : List ℕ} {r : ℕ} → Becomes none_one_several_of s at old new pos end r → Becomes join_kept_of s at old new pos end r
-      join_several e {new} {r} w = record { by = λ t h ts d. go t h ts d }
+      pub join_several : (pos + 1 + z + v ≡ end → ⊥) → {new : List ℕ} {r : ℕ} → Becomes none_one_several_of u old new pos end r → Becomes join_kept_of u old new pos end r
+      join_several e {new} {r} w = record { by = go }
         where
-          go : (t : Tree) → head_at s at ≡ t.head → (ts : List Tree) → Spans old (pos + 1) end ts → Wrote old new pos r (join_kept (place_of t) ts)
-          go t h [] d = w.by t h [] d
-          go t h (x ∷ []) d = w.by t h (x ∷ []) d
-          go t h (x ∷ y ∷ []) d = absurd (e (omega (arith, d.ends, d.stands.2, second_size pos z ez v ev x y [] d)))
-          go t h (x ∷ y ∷ u ∷ us) d = w.by t h (x ∷ y ∷ u ∷ us) d
+          go : (ts : List Tree) → Spans old (pos + 1) end ts → Wrote old new pos r (join_kept (place_of (tree u)) ts)
+          go [] d = w.by [] d
+          go (x ∷ []) d = w.by (x ∷ []) d
+          go (x ∷ y ∷ []) d = absurd (e (omega (arith, d.ends, d.stands.2, second_size pos z ez v ev x y [] d)))
+          go (x ∷ y ∷ c ∷ cs) d = w.by (x ∷ y ∷ c ∷ cs) d

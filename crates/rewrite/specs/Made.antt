@@ -1,6 +1,6 @@
 -- A made node over the trees that stand behind its record.
-use Rattle.std.specs.Prelude.{◌≡◌, Bool, true, false, List, [], ◌∷◌, ℕ, ◌+◌, ◌-◌, ◌<◌, ◌≤◌, length}
-use Rattle.std.proofs.Math.Path.{sym}
+use Rattle.std.specs.Int.{from_bool}
+use Rattle.std.specs.Prelude.{◌≡◌, refl, Bool, true, false, List, [], ◌∷◌, ℕ, ◌+◌, ◌-◌, ◌<◌, ◌≤◌, length}
 use Rattle.std.proofs.Common.{ap, ◌∙◌, arith}
 use Rattle.std.proofs.Math.Bool.{cond}
 use Rattle.tree.specs.Tree.{Place, Tree, forest, records}
@@ -9,8 +9,8 @@ use Rattle.rules.specs.Facts.{flagged}
 use Rattle.rules.specs.Made.{made, made_head, flag_of, make_template}
 use Rattle.tree.specs.Kind as kind
 use Rattle.output.specs.Records.{Behind, Recorded, before_all}
-use Rattle.output.specs.Trees.{Spans, Wrote, wrote_as, recorded_node}
-use Rattle.output.specs.Lists.{Spanned, Counts, AnyOf}
+use Rattle.output.specs.Trees.{Spans, Wrote, recorded_node}
+use Rattle.output.specs.Lists.{Counts, AnyOf}
 
 -- Some list stands behind record pos, to record end, and there is room for the record.
 pub record GivenMade (out : List ℕ) (pos end : ℕ) : Type 0 where
@@ -36,22 +36,15 @@ pub record Makes (make : Place → List Tree → Tree) (old new : List ℕ) (pos
 pub record FlagOf (s : List ℕ) (p e r : ℕ) : Type 0 where
   pub by : (ts : List Tree) → Spans s p e ts → r ≡ flag_of ts
 
-module _ {s : List ℕ} {p e : ℕ} {b : Bool} (a : AnyOf s p e flagged b) where
-  pub flag_set : b ≡ true → FlagOf s p e 1
-  unfolding flag_of
-  flag_set x = record { by = λ ts d. sym (ap (λ (y : Bool). cond y 1 0) (sym (a.by ts d) ∙ x)) }
-
-  pub flag_clear : b ≡ false → FlagOf s p e 0
-  unfolding flag_of
-  flag_clear x = record { by = λ ts d. sym (ap (λ (y : Bool). cond y 1 0) (sym (a.by ts d) ∙ x)) }
+pub flag_told : {s : List ℕ} {p e r : ℕ} {b : Bool} → AnyOf s p e flagged b → r ≡ from_bool b → FlagOf s p e r
+unfolding flag_of
+flag_told {b = b} a x = record { by = λ ts d. x ∙ by_bool b ∙ ap (λ (y : Bool). cond y 1 0) (a.by ts d) }
+  where
+    by_bool : (b : Bool) → from_bool b ≡ cond b 1 0
+    by_bool true = refl
+    by_bool false = refl
 
 module _ {out : List ℕ} {pos end : ℕ} (g : GivenMade out pos end) where
-  pub made_spanned : Spanned out (pos + 1) end
-  made_spanned = record { list = g.list; spans = g.spans; inside = g.inside }
-
-  pub made_after : pos + 1 ≤ end
-  made_after = omega (arith, g.spans.ends)
-
   count_few : (ts : List Tree) → length ts ≤ records (forest ts)
   count_few [] = omega arith
   count_few (t ∷ ts) = omega (arith, count_few ts)
@@ -63,13 +56,6 @@ pub made_over : {old new : List ℕ} {pos end kind sub facts : ℕ} {place : Pla
 made_over {old} {new} {pos} c ez r = record {
   by = λ ts d. recorded_node ts (before_all old pos) d r (c.by ts d) (omega (arith, d.ends));
   above = r.above;
-}
-
-pub makes_flagged : {old new : List ℕ} {pos end kind sub facts : ℕ} {place : Place} → FlagOf old (pos + 1) end facts → MadeOver old new pos end kind sub facts place
-    → Makes (make_flagged kind sub) old new pos end place
-makes_flagged {old} {new} {pos} {end} {kind} {sub} {facts} {place} f m = record {
-  by = λ ts d. wrote_as (m.by ts d) (ap (λ (x : ℕ). made kind sub x place ts ∷ []) (f.by ts d));
-  above = m.above;
 }
 
 pub makes_template : {old new : List ℕ} {pos end : ℕ} {place : Place} → MadeOver old new pos end kind.template 0 1 place → Makes make_template old new pos end place

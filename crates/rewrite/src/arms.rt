@@ -1,6 +1,8 @@
 // The arms of a conditional.
 ghost use Rattle.rewrite.specs.Arms.{GivenArms, JoinsArms};
 
+use readings::Node;
+
 // "sub 1 for and, 2 for or"
 const AND: u8 = 1;
 
@@ -10,24 +12,23 @@ const OR: u8 = 2;
 // alternate, up to record end; one of the two is left at least. "a dropped consequent gives or, a dropped alternate and. Neither gone
 // keeps the conditional".
 pub fn join_arms(
-    src: &[u8],
-    at: usize,
+    node: Node,
     out: &mut [u8],
     pos: usize,
     arms: usize,
     middle: usize,
     end: usize,
 ) -> usize
-    requires { GivenArms src.now at out.old pos arms middle end }
-    ensures { JoinsArms src.now at out.old out.new pos arms middle end result }
+    requires { GivenArms node out.old pos arms middle end }
+    ensures { JoinsArms node.entry out.old out.new pos arms middle end result }
 {
     if middle == arms {
-        crate::made::make_logical(out, pos, end, OR, fields::place_at(src, at));
+        crate::made::make_logical(out, pos, end, OR, node.record.place());
         return end;
     }
     if end == middle {
-        crate::made::make_logical(out, pos, end, AND, fields::place_at(src, at));
+        crate::made::make_logical(out, pos, end, AND, node.record.place());
         return end;
     }
-    crate::close::stays_with(src, at, out, pos, end)
+    crate::close::stays_with(node, out, pos, end)
 }

@@ -3,7 +3,9 @@ ghost use Rattle.fields.specs.Place.{said_in};
 ghost use Rattle.rewrite.specs.Becomes.{GivenList, Becomes, join_kept_of};
 ghost use Rattle.rewrite.specs.Join.{GivenPair, Joins};
 
-use fields::{Place, kind};
+use fields::record::kind;
+use fields::{Place, Record};
+use readings::Node;
 
 // Two trees, behind record pos and at record second: "if a is a sequence, b is appended whole, even a sequence; else a sequence b
 // gets a in front; else the two make a sequence".
@@ -12,12 +14,20 @@ fn join_sequence(out: &mut [u8], pos: usize, second: usize, end: usize, place: P
     ensures { Joins out.old out.new pos second end (said_in out.old place) result }
 {
     let first = pos + 1;
-    if fields::kind_at(out, first) == kind::SEQUENCE {
+    let left = Record {
+        src: out,
+        at: first,
+    };
+    if left.kind() == kind::SEQUENCE {
         output::move_down(out, first, end - first - 1);
         crate::made::make_sequence(out, pos, end - 1, place);
         return end - 1;
     }
-    if fields::kind_at(out, second) == kind::SEQUENCE {
+    let right = Record {
+        src: out,
+        at: second,
+    };
+    if right.kind() == kind::SEQUENCE {
         output::move_down(out, second, end - second - 1);
         crate::made::make_sequence(out, pos, end - 1, place);
         return end - 1;
@@ -27,20 +37,28 @@ fn join_sequence(out: &mut [u8], pos: usize, second: usize, end: usize, place: P
 }
 
 // "two kept go to `join_sequence`"
-pub fn join_kept(src: &[u8], at: usize, out: &mut [u8], pos: usize, end: usize) -> usize
-    requires { GivenList src.now at out.old pos end }
-    ensures { Becomes join_kept_of src.now at out.old out.new pos end result }
+pub fn join_kept(node: Node, out: &mut [u8], pos: usize, end: usize) -> usize
+    requires { GivenList node out.old pos end }
+    ensures { Becomes join_kept_of node.entry out.old out.new pos end result }
 {
     let first = pos + 1;
     if end == first {
         return pos;
     }
-    let second = first + fields::subtree_at(out, first);
+    let left = Record {
+        src: out,
+        at: first,
+    };
+    let second = first + left.subtree();
     if second == end {
-        return crate::close::none_one_several(src, at, out, pos, end);
+        return crate::close::none_one_several(node, out, pos, end);
     }
-    if second + fields::subtree_at(out, second) == end {
-        return join_sequence(out, pos, second, end, fields::place_at(src, at));
+    let right = Record {
+        src: out,
+        at: second,
+    };
+    if second + right.subtree() == end {
+        return join_sequence(out, pos, second, end, node.record.place());
     }
-    crate::close::none_one_several(src, at, out, pos, end)
+    crate::close::none_one_several(node, out, pos, end)
 }

@@ -3,98 +3,105 @@
 // Of standard input the first 79,989 bytes are read: one more than the longest file that is taken.
 #![tactic(auto)]
 
-mod buffer;
+mod out;
 mod words;
 
-ghost use Rattle.std.specs.Prelude.{◌+◌, ◌<◌, ◌≤◌};
-ghost use Rattle.tree.specs.Room.{records_in};
-ghost use Rattle.tree.specs.Walk.{Held};
+ghost use Rattle.std.specs.Prelude.{◌+◌, ◌<◌, ◌≤◌, length};
+ghost use Rattle.tree.specs.Layout.{header_bytes};
+ghost use Rattle.show.specs.Left.{HasKind};
 
-use buffer::Buffer;
-use file::Checked;
+use fields::{Kind, Record};
+use out::Out;
 
 fn main(rt: HostRuntime) {
     let mut input = [0u8; 79989];
     let n = streams::read_full(&mut rt.stdin(), &mut input);
-    let mut out = buffer::empty(rt.stdout());
-    let used = print_file(&input[..n], &mut out);
-    buffer::flush(&out, used);
+    let mut out = Out::new(rt.stdout());
+    print_file(&input[..n], &mut out);
+    out.flush();
 }
 
-// Returns how many bytes of the buffer are still to be written.
-fn print_file(src: &[u8], out: &mut Buffer) -> u16 {
-    let checked = file::check(
-        src,
-        file::LIST_EFFECTS_RECORDS,
-        file::LIST_EFFECTS_DEPTH,
-        file::LIST_EFFECTS_LOGICALS,
-    );
-    match checked {
-        Checked::Refused(number) => {
-            let used = buffer::put_number(b"refused ", number as u64, out, 0);
-            buffer::put(b"\n", out, used)
+fn print_file(src: &[u8], out: &mut Out) {
+    match file::check(src, file::Limits::LIST_EFFECTS) {
+        Err(refusal) => {
+            out.put_number("refused ", u32::from(refusal.number()));
+            out.put("\n");
         }
-        Checked::Accepted { settings, count } => {
-            let ends = fields::has_ends(src);
-            let used = words::put_header(ends, settings as usize, out, 0);
-            print_trees(src, 0, count, 0, ends, out, used)
+        Ok(accepted) => {
+            print_header(src, accepted.settings, out);
+            Trees {
+                src,
+                at: 0,
+                size: accepted.count,
+                level: 0,
+            }
+            .print(out);
         }
     }
 }
 
-// Prints the trees that stand from record at on, in size records. It calls itself as deep as they are: siblings are walked by the
-// loop. What is required of the level keeps it within its bits. `ends` says whether a record has an end.
-fn print_trees(
-    src: &[u8],
+// A version whose records have an end is 2, and any other that is accepted 1.
+fn print_header(src: &[u8], settings: u8, out: &mut Out)
+    requires { header_bytes ≤ length src.now }
+{
+    out.put(if fields::has_ends(src) {
+        "uxt 2"
+    } else {
+        "uxt 1"
+    });
+    out.put_flags(settings, &words::SETTINGS);
+    out.put("\n");
+}
+
+// The trees that stand from record `at` on, in `size` records, so many levels under the root.
+#[derive(Clone, Copy)]
+struct Trees<'a> {
+    src: &'a [u8],
     at: usize,
     size: usize,
     level: usize,
-    ends: bool,
-    out: &mut Buffer,
-    mut used: u16,
-) -> u16
-    requires { Held src.now at size × (level + size < 65536) }
-{
-    let end = at + size;
-    let mut p = at;
-    while p < end {
-        used = print_record(src, p, level, ends, out, used);
-        let subtree = fields::subtree_at(src, p);
-        used = print_trees(src, p + 1, subtree - 1, level + 1, ends, out, used);
-        p += subtree;
-    }
-    used
 }
 
-fn print_record(
-    src: &[u8],
-    i: usize,
-    level: usize,
-    ends: bool,
-    out: &mut Buffer,
-    mut used: u16,
-) -> u16
-    requires { i + 1 ≤ records_in src.now }
-{
-    let kind = fields::kind_at(src, i);
-    used = print_indent(level, out, used);
-    used = words::put_kind(kind, out, used);
-    used = words::put_sub(kind, fields::sub_at(src, i), out, used);
-    used = words::put_facts(fields::facts_at(src, i), out, used);
-    used = buffer::put_number(b" text ", fields::text_at(src, i) as u64, out, used);
-    let place = fields::place_at(src, i);
-    used = buffer::put_number(b" place ", place.start as u64, out, used);
-    if ends {
-        used = buffer::put_number(b"..", place.end as u64, out, used);
+impl Trees<'_> {
+    ghost use Rattle.show.specs.Left.{Shown};
+
+    // It calls itself as deep as the trees are: siblings are walked by the loop, whose step is a tree's size.
+    fn print(self, out: &mut Out)
+        requires { Shown self }
+    {
+        let end = self.at + self.size;
+        let mut at = self.at;
+        while at < end {
+            let record = Record { src: self.src, at };
+            print_record(record, self.level, out);
+            let subtree = record.subtree();
+            Trees {
+                at: at + 1,
+                size: subtree - 1,
+                level: self.level + 1,
+                ..self
+            }
+            .print(out);
+            at += subtree;
+        }
     }
-    buffer::put(b"\n", out, used)
 }
 
-fn print_indent(level: usize, out: &mut Buffer, mut used: u16) -> u16 {
-    let mut i = 0;
-    while i < level {
-        used = buffer::put(b"  ", out, used);
-        i += 1;
+fn print_record(record: Record<'_>, level: usize, out: &mut Out)
+    requires { HasKind «record» }
+{
+    let kind = Kind::try_from(record.kind()).unwrap();
+    for _ in 0..level {
+        out.put("  ");
     }
-    used
+    out.put(words::word(kind));
+    words::put_sub(kind, record.sub(), out);
+    out.put_flags(record.facts(), &words::FACTS);
+    out.put_number(" text ", record.text());
+    let place = record.place();
+    out.put_number(" place ", place.start);
+    if fields::has_ends(record.src) {
+        out.put_number("..", place.end);
+    }
+    out.put("\n");
 }

@@ -3,9 +3,10 @@
 // (docs/DECISIONS.md).
 #![tactic(auto)]
 
-ghost use Rattle.std.specs.Prelude.{◌≡◌, ℕ, ◌≤◌, length, take, true, decimal};
+ghost use Rattle.std.specs.Prelude.{◌≡◌, ◌++◌, take, true, codes, decimal};
 ghost use Rattle.std.specs.Io.KnownBytes.{Appends, Consumes};
 ghost use Rattle.streams.specs.Filled.{Filled};
+ghost use Rattle.streams.specs.Front.{AppendsFront, AppendsFronts};
 
 use itoa::Buffer;
 use std::io::{Read, Write};
@@ -19,9 +20,8 @@ pub fn read_full<R: Read>(reader: &mut R, buf: &mut [u8]) -> usize
     let mut done = 0;
     while done < buf.len() {
         match reader.read(&mut buf[done..]) {
-            Ok(0) => return done,
+            Ok(0) | Err(_) => return done,
             Ok(n) => done += n,
-            Err(_) => return done,
         }
     }
     done
@@ -31,15 +31,13 @@ pub fn read_full<R: Read>(reader: &mut R, buf: &mut [u8]) -> usize
 // them may be written.
 pub fn write_all<W: Write>(writer: &mut W, bytes: &[u8]) -> bool
     ensures all { result ≡ true → Appends (W.contents writer.old) (W.contents writer.new) bytes.now }
-    ensures front { (n : ℕ) × (n ≤ length bytes.now)
-        × Appends (W.contents writer.old) (W.contents writer.new) (take n bytes.now) }
+    ensures front { AppendsFront (W.contents writer.old) (W.contents writer.new) bytes.now }
 {
-    let mut done = 0;
-    while done < bytes.len() {
-        match writer.write(&bytes[done..]) {
-            Ok(0) => return false,
-            Ok(n) => done += n,
-            Err(_) => return false,
+    let mut rest = bytes;
+    while !rest.is_empty() {
+        match writer.write(rest) {
+            Ok(0) | Err(_) => return false,
+            Ok(n) => rest = &rest[n..],
         }
     }
     true
@@ -48,11 +46,19 @@ pub fn write_all<W: Write>(writer: &mut W, bytes: &[u8]) -> bool
 // Writes a number in decimal, and returns what `write_all` does.
 pub fn print_decimal<W: Write>(writer: &mut W, number: u64) -> bool
     ensures all { result ≡ true → Appends (W.contents writer.old) (W.contents writer.new) (decimal number) }
-    ensures front { (n : ℕ) × (n ≤ length (decimal number))
-        × Appends (W.contents writer.old) (W.contents writer.new) (take n (decimal number)) }
+    ensures front { AppendsFront (W.contents writer.old) (W.contents writer.new) (decimal number) }
 {
     let mut digits = Buffer::new();
     write_all(writer, digits.format(number).as_bytes())
+}
+
+// Writes a word, a number in decimal and the end of the line, each of them also where one before it was not written whole, and returns
+// whether all of them were.
+pub fn print_number<W: Write>(writer: &mut W, word: &[u8], number: u64) -> bool
+    ensures all { result ≡ true → Appends (W.contents writer.old) (W.contents writer.new) (word.now ++ decimal number ++ codes "\n") }
+    ensures fronts { AppendsFronts (W.contents writer.old) (W.contents writer.new) word.now (decimal number) (codes "\n") }
+{
+    write_all(writer, word) & print_decimal(writer, number) & write_all(writer, b"\n")
 }
 
 #[cfg(test)]

@@ -46,6 +46,26 @@ impl Write for FailsAfter {
     }
 }
 
+// Takes all that it is given, but at its first call.
+#[derive(Drop)]
+struct FailsFirst {
+    calls: u8,
+}
+
+impl Write for FailsFirst {
+    fn write(&mut self, buf: &[u8]) -> Result<usize> {
+        self.calls = self.calls.saturating_add(1);
+        if self.calls == 1 {
+            return Err(Error::from(ErrorKind::Other));
+        }
+        Ok(buf.len())
+    }
+
+    fn flush(&mut self) -> Result<()> {
+        Ok(())
+    }
+}
+
 #[test]
 fn a_read_that_fails_ends_the_input(rt: HostRuntime) {
     let mut buf = [9u8; 5];
@@ -60,6 +80,14 @@ fn a_write_that_fails_is_told(rt: HostRuntime) {
     assert!(rt; print_decimal(&mut writer, 120));
     assert!(rt; !write_all(&mut writer, b"uxt"));
     assert!(rt; write_all(&mut writer, b""));
+}
+
+#[test]
+fn a_line_goes_on_behind_a_write_that_fails(rt: HostRuntime) {
+    let mut writer = FailsFirst { calls: 0 };
+    assert!(rt; !print_number(&mut writer, b"count ", 12));
+    assert_eq!(rt; writer.calls, 3);
+    assert!(rt; print_number(&mut writer, b"count ", 12));
 }
 
 #[test]

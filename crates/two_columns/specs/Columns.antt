@@ -1,7 +1,5 @@
 -- The two columns of a tree file, as the bytes that are printed.
-use Rattle.std.specs.Prelude.{◌≡◌, List, [], ◌∷◌, ◌++◌, ℕ, zero, suc, ◌/◌, ◌%◌, max, length, drop}
-use Rattle.text.specs.Ascii.{ascii}
-use Rattle.text.specs.Decimal.{decimal}
+use Rattle.std.specs.Prelude.{List, [], ◌∷◌, ◌++◌, ℕ, zero, suc, ◌/◌, ◌%◌, max, length, codes, decimal}
 use Rattle.tree.specs.Tree.{forest, records}
 use Rattle.tree.specs.Fields.{count_of}
 use Rattle.tree.specs.Layout.{version_in}
@@ -11,11 +9,11 @@ use Rattle.reducer.specs.Answer.{left, answer_list}
 
 -- "Columns are place/kind/coercion": an effect is place × 512 + kind × 2 + 1 if a coercion.
 unfoldable pub column : ℕ → List ℕ
-column e = decimal (e / 512) ++ ascii "/" ++ decimal (e / 2 % 256) ++ ascii "/" ++ decimal (e % 2)
+column e = decimal (e / 512) ++ codes "/" ++ decimal (e / 2 % 256) ++ codes "/" ++ decimal (e % 2)
 
 -- "`-` where the shorter list has ended"
 abbrev pub cell : List ℕ → List ℕ
-cell [] = ascii "-"
+cell [] = codes "-"
 cell (e ∷ es) = column e
 
 abbrev pub rest : List ℕ → List ℕ
@@ -24,7 +22,7 @@ rest (e ∷ es) = es
 
 -- The next effect of each list, side by side.
 unfoldable pub line : List ℕ → List ℕ → List ℕ
-line before after = cell before ++ ascii " " ++ cell after ++ ascii "\n"
+line before after = cell before ++ codes " " ++ cell after ++ codes "\n"
 
 unfoldable pub lines : ℕ → List ℕ → List ℕ → List ℕ
 lines zero before after = []
@@ -36,14 +34,14 @@ side_by_side before after = lines (max (length before) (length after)) before af
 
 -- "last, N and result records (0 if removable)"
 unfoldable pub records_line : ℕ → ℕ → List ℕ
-records_line n m = ascii "records " ++ decimal n ++ ascii " " ++ decimal m ++ ascii "\n"
+records_line n m = codes "records " ++ decimal n ++ codes " " ++ decimal m ++ codes "\n"
 
 -- "A refusal prints only `refused` and its number."
 unfoldable pub refused_line : ℕ → List ℕ
-refused_line number = ascii "refused " ++ decimal number ++ ascii "\n"
+refused_line number = codes "refused " ++ decimal number ++ codes "\n"
 
 unfoldable pub table : List ℕ → List ℕ
-table s = ascii "before after\n" ++ side_by_side (effect_list s) (answer_list s) ++ records_line (count_of s) (records (forest (left s)))
+table s = codes "before after\n" ++ side_by_side (effect_list s) (answer_list s) ++ records_line (count_of s) (records (forest (left s)))
 
 abbrev pub columns_by : ℕ → List ℕ → List ℕ
 columns_by zero s = table s
@@ -52,8 +50,3 @@ columns_by (suc k) s = refused_line (suc k)
 -- What is printed of a file: a refusal is Reduce's, with as much lent as it may need, but that fewer records of version 2 are taken.
 unfoldable pub columns : List ℕ → List ℕ
 columns s = columns_by (refusal (program_limits (version_in s)) s) s
-
--- The bytes of the text, from the first on, and no other byte has changed.
-pub record Printed (s old new : List ℕ) (r : ℕ) : Type 0 where
-  pub ends : r ≡ length (columns s)
-  pub bytes : new ≡ columns s ++ drop (length (columns s)) old

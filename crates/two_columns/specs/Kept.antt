@@ -1,22 +1,24 @@
 -- What is left of a file, as List effects takes it: a file, or nothing.
-use Rattle.std.specs.Prelude.{◌≡◌, Bool, true, false, cond, ℕ, ◌*◌, ◌<◌, ◌≤◌, ltb, get_or, drop}
+use Rattle.std.specs.Prelude.{◌≡◌, Bool, true, false, cond, ℕ, ◌*◌, ◌<◌, ◌≤◌, ltb, get_or, take, drop, codes, Result, Ok, Err}
+use Rattle.std.specs.Result.{result_unwrap_or}
 use Rattle.std.proofs.Math.Path.{refl, sym, ap}
-use Rattle.std.proofs.Common.{◌∙◌, arith, lt-ltb, le-ltb}
+use Rattle.std.proofs.Common.{◌∙◌, arith, le-ltb}
 use Rattle.std.proofs.Math.Bool.{true≢false}
+use Rattle.std.proofs.Math.Seq.{take-append_seam}
 use mathlib.Core.List.{List, [], ◌∷◌, ◌++◌}
 use Rattle.std.proofs.Math.ListN.{length}
+use Rattle.refusal.specs.declared.Refusal.{Refusal}
+use Rattle.refusal.specs.Number.{number_of}
 use Rattle.tree.specs.Tree.{Tree, forest, records, size}
-use Rattle.tree.specs.Layout.{header_bytes}
+use Rattle.tree.specs.Layout.{Version, v1, v2, version_in, header_bytes}
 use Rattle.tree.specs.Fields.{count_of}
-use Rattle.tree.specs.Refusal.{reduce_limits, list_effects_limits, refusal}
+use Rattle.tree.specs.Refusal.{reduce_limits, program_limits, list_effects_limits, mark_ok, refusal}
 use Rattle.tree.specs.Encoding.{Bytes}
 use Rattle.tree.proofs.Accepted.{passed, counted_parts, mark_long, accepted, wider}
 use Rattle.stated.specs.Stated.{Stated}
-use Rattle.stated.specs.Wrote.{Wrote, wrote_none, wrote_as, front_wrote}
-use Rattle.effects.specs.Answer.{Case, refused_by, counts, stated, number, effect_list, Answers, count_within_lem}
-use Rattle.effects.specs.declared.Listed.{Listed}
-use Rattle.effects.specs.declared.Listed.TheVariants.{Refused, Count}
+use Rattle.effects.specs.Answer.{Case, refused_by, counts, stated, stated, number, effect_list, Answers}
 use Rattle.reducer.specs.Answer.{left, rewritten, answer_list_given, answer_list, Promised}
+use Rattle.two_columns.specs.Columns.{side_by_side, records_line, table}
 
 -- The effects of a file; none where nothing is left.
 abbrev pub effects_of : List ℕ → List ℕ
@@ -30,12 +32,11 @@ records_of s = cond (ltb (length s) header_bytes) 0 (count_of s)
 pub record GivenList (s : List ℕ) (room : ℕ) : Type 0 where
   pub taken : 0 < length s → number s room ≡ 0
 
--- An accepted file, what is left of it, and room for the longest text.
-pub record GivenTable (s kept : List ℕ) (room : ℕ) : Type 0 where
-  pub accepted_is : refusal reduce_limits s ≡ 0
+-- An accepted file, and what is left of it.
+pub record GivenTable (s kept : List ℕ) : Type 0 where
+  pub accepted_is : refusal (program_limits (version_in s)) s ≡ 0
   pub promised : Promised s
   pub kept_is : kept ≡ rewritten s
-  pub fits : 384000 ≤ room
 
 listed : (s : List ℕ) (room : ℕ) → refusal list_effects_limits s ≡ 0 → 2 * count_of s ≤ room → number s room ≡ 0
 unfolding number
@@ -49,13 +50,24 @@ records_some : (s : List ℕ) → header_bytes ≤ length s → records_of s ≡
 unfolding records_of
 records_some s l = rw (le-ltb (length s) header_bytes l)
 
--- The file itself.
-module _ (s : List ℕ) (e : refusal reduce_limits s ≡ 0) where
+-- The file itself: Reduce's limits are wider.
+module _ (s : List ℕ) (e : refusal (program_limits (version_in s)) s ≡ 0) where
+  reducible : refusal reduce_limits s ≡ 0
+  reducible = go (version_in s) e
+    where
+      go : (v : Version) → refusal (program_limits v) s ≡ 0 → refusal reduce_limits s ≡ 0
+      go v1 z = z
+      go v2 z = wider (program_limits v2) reduce_limits (omega arith) (omega arith) (λ x. x) s z
+
   long : header_bytes ≤ length s
-  long = mark_long s (passed reduce_limits s e).mark
+  long = mark_long s (passed reduce_limits s reducible).mark
 
   pub file_taken : GivenList s 4000
-  file_taken = record { taken = λ z. listed s 4000 (wider reduce_limits list_effects_limits (omega arith) (omega arith) (λ _. refl) s e) (omega (arith, (counted_parts 2000 s (passed reduce_limits s e).counted).few)) }
+  file_taken = record {
+    taken = λ z.
+        listed s 4000 (wider reduce_limits list_effects_limits (omega arith) (omega arith) (λ _. refl) s reducible)
+        (omega (arith, (counted_parts 2000 s (passed reduce_limits s reducible).counted).few));
+  }
 
   pub file_effects : effects_of s ≡ effect_list s
   file_effects = effects_some s (omega (arith, long))
@@ -102,37 +114,44 @@ module _ (s : List ℕ) (p : Promised s) where
           ∙ rw x (omega arith)
       go (t ∷ u ∷ us) x = absurd (omega (arith, p.at_most_one, ap length x))
 
--- What the functions of the table return.
-pub records_none : (s : List ℕ) → length s < header_bytes → 0 ≡ records_of s
-unfolding records_of
-records_none s l = sym (rw (lt-ltb (length s) header_bytes l) refl)
+-- Both of them.
+module _ {s kept : List ℕ} (g : GivenTable s kept) where
+  pub given_kept : GivenList kept 7998
+  given_kept = rw g.kept_is (kept_taken s g.promised)
 
-pub records_read : (s : List ℕ) {r : ℕ} → header_bytes ≤ length s → r ≡ count_of s → r ≡ records_of s
-records_read s l e = e ∙ sym (records_some s l)
+  pub table_is : Bytes kept → {before after : List ℕ} → before ≡ effects_of s → after ≡ effects_of kept → {n m : ℕ} → n ≡ records_of s → m ≡ records_of kept
+      → codes "before after\n" ++ side_by_side before after ++ records_line n m ≡ table s
+  unfolding table
+  table_is bs b a n m =
+      let left_b = b ∙ file_effects s g.accepted_is in
+      let left_a = a ∙ ap effects_of g.kept_is ∙ kept_effects s g.promised in
+      let counted = n ∙ file_records s g.accepted_is in
+      let left_counted = m ∙ ap records_of g.kept_is ∙ kept_records s g.promised (rw g.kept_is at bs) in
+      rw (left_b, left_a, counted, left_counted) refl
 
-effects_none : (s : List ℕ) → length s ≡ 0 → [] ≡ effects_of s
-effects_none [] e = refl
-effects_none (b ∷ bs) e = absurd (omega (arith, e))
-
-pub listed_none : (s : List ℕ) {old : List ℕ} → length s ≡ 0 → Wrote old old 0 0 (effects_of s) × (0 ≤ length old)
-listed_none s {old} e = (wrote_as (wrote_none old 0) (effects_none s e), omega arith)
-
--- A file that is accepted is not refused: what stands behind that test is never reached.
+-- A file that is accepted is not refused: what is then taken for no effects is never reached.
 is_refused : Case → Bool
 is_refused Case.refused = true
 is_refused Case.count = false
 
-module _ {s old new : List ℕ} {r : Listed} (z : number s (length old) ≡ 0) (a : Answers s old new r) where
-  pub listed_accepted : {n : ℕ} → r ≡ Refused n → ⊥
+module _ {s old new : List ℕ} {r : Result ℕ Refusal} (z : number s (length old) ≡ 0) (a : Answers s old new r) where
+  pub listed_accepted : {x : Refusal} → r ≡ Err x → ⊥
   unfolding is_refused
-  listed_accepted {n} e =
-      let x : refused_by n ≡ counts (length (effect_list s)) = ap stated (sym e) ∙ a.answer ∙ rw z refl in
-      true≢false (ap (λ (y : Stated Case). is_refused y.case) x)
+  listed_accepted {x} e =
+      let y : refused_by (number_of x) ≡ counts (length (effect_list s)) = ap stated (sym e) ∙ a.answer ∙ rw z refl in
+      true≢false (ap (λ (y : Stated Case). is_refused y.case) y)
 
-  pub listed_count : {n : ℕ} → 0 < length s → length new ≡ length old → r ≡ Count n → Wrote old new 0 n (effects_of s) × (n ≤ length old)
-  listed_count {n} l same e =
+  listed_entries : {n : ℕ} → r ≡ Ok n → take n new ≡ effect_list s
+  listed_entries {n} e =
       let x : counts n ≡ counts (length (effect_list s)) = ap stated (sym e) ∙ a.answer ∙ rw z refl in
       let counted : n ≡ length (effect_list s) = ap (λ (y : Stated Case). get_or y.values 0 0) x in
       let written : new ≡ effect_list s ++ drop (length (effect_list s)) old = a.entries ∙ rw z refl in
-      let fits : length (effect_list s) ≤ length old = omega (arith, same, counted, count_within_lem a e) in
-      (wrote_as (rw counted (front_wrote written fits)) (sym (effects_some s l)), omega (arith, counted))
+      rw (counted, written) (take-append_seam (effect_list s) (drop (length (effect_list s)) old))
+
+-- An empty file is refused.
+pub listed_list : (s : List ℕ) {old new : List ℕ} {r : Result ℕ Refusal} → GivenList s (length old) → Answers s old new r → take (result_unwrap_or r 0) new ≡ effects_of s
+unfolding is_refused number refusal mark_ok
+listed_list [] {r = Ok n} g a = absurd (true≢false (ap (λ (y : Stated Case). is_refused y.case) (sym a.answer)))
+listed_list [] {r = Err x} g a = refl
+listed_list (b ∷ bs) {r = Ok n} g a = listed_entries (g.taken (omega arith)) a refl
+listed_list (b ∷ bs) {r = Err x} g a = absurd (listed_accepted (g.taken (omega arith)) a refl)

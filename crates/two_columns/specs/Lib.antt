@@ -4,4 +4,3 @@ pub mod Limit
 pub mod Lines
 pub mod Rows
 pub mod Run
-pub mod Table

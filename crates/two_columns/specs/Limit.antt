@@ -1,5 +1,5 @@
 -- 02, N6: "The two-column and batch programs take 1,500 records of version 2 and refuse more as a wrong count".
-use Rattle.std.specs.Prelude.{◌≡◌, Bool, ◌&&◌, List, ℕ, ◌<◌, ◌≤◌, ltb, length}
+use Rattle.std.specs.Prelude.{◌≡◌, Bool, ◌&&◌, List, ℕ, ◌<◌, ◌≤◌, ltb, length, Result, Ok, Err}
 use Rattle.std.proofs.Math.Path.{refl, sym}
 use Rattle.std.proofs.Common.{ap, ◌∙◌, true≢false, arith}
 use Rattle.std.proofs.Math.Bool.{true, false}
@@ -10,6 +10,9 @@ use Rattle.tree.specs.Layout.{Version, v1, v2, version_in, header_bytes}
 use Rattle.tree.specs.Fields.{count_of}
 use Rattle.tree.specs.Refusal.{Limits, reduce_limits, program_limits, mark_ok, count_ok, refusal}
 use Rattle.tree.proofs.Accepted.{passed, counted_parts}
+use Rattle.refusal.specs.declared.Refusal.{Refusal}
+use Rattle.refusal.specs.Number.{number_of}
+use Rattle.file.specs.declared.Accepted.{Accepted}
 use Rattle.file.specs.Answer as check
 
 -- A file that counts more records of version 2 than these programs take.
@@ -19,21 +22,6 @@ many_of v2 n = ltb 1500 n
 
 unfoldable pub too_many : List ℕ → Bool
 too_many s = leb header_bytes (length s) && many_of (version_in s) (count_of s)
-
--- As the code tells it.
-module _ (s : List ℕ) where
-  pub too_short : length s < header_bytes → false ≡ too_many s
-  unfolding too_many
-  too_short l = sym (rw (lt-leb header_bytes (length s) l))
-
-  module _ (l : header_bytes ≤ length s) where
-    pub many_counted : version_in s ≡ v2 → {n : ℕ} → n ≡ count_of s → ltb 1500 n ≡ too_many s
-    unfolding too_many
-    many_counted v {n} e = rw (le-leb header_bytes (length s) l, v, e)
-
-    pub many_never : version_in s ≡ v1 → false ≡ too_many s
-    unfolding too_many
-    many_never v = sym (rw (le-leb header_bytes (length s) l, v))
 
 -- Such a file is of version 2, and refused.
 module _ (s : List ℕ) (m : too_many s ≡ true) where
@@ -53,14 +41,15 @@ module _ (s : List ℕ) (m : too_many s ≡ true) where
       let over : ltb 1500 (count_of s) ≡ true = rw many_version at many in
       omega (arith, ltb-true 1500 (count_of s) over, (counted_parts 1500 s (passed (program_limits v2) s z).counted).few)
 
-  -- The number that the check answers under that limit.
-  pub many_number : {n : ℕ} → check.refused_by n ≡ check.checked (program_limits v2) s → (n ≡ refusal (program_limits (version_in s)) s) × (n ≡ 0 → ⊥)
-  many_number {n} e =
-      let r = check.checked_refused (program_limits v2) s n e in
-      (sym r.0 ∙ ap (λ (v : Version). refusal (program_limits v) s) (sym many_version), r.1)
+  -- What the check answers under that limit.
+  module _ {r : Result Accepted Refusal} (e : check.stated r ≡ check.checked (program_limits v2) s) where
+    pub many_number : {x : Refusal} → r ≡ Err x → number_of x ≡ refusal (program_limits (version_in s)) s
+    many_number {x} is =
+        sym (check.checked_refused (program_limits v2) s (number_of x) (ap check.stated (sym is) ∙ e)).0
+        ∙ ap (λ (v : Version). refusal (program_limits v) s) (sym many_version)
 
-  pub many_not_accepted : {settings n : ℕ} → check.accepted_with settings n ≡ check.checked (program_limits v2) s → ⊥
-  many_not_accepted {settings} {n} e = many_refused (check.checked_accepted (program_limits v2) s settings n e).0
+    pub many_not_accepted : {a : Accepted} → r ≡ Ok a → ⊥
+    many_not_accepted {a} is = many_refused (check.checked_accepted (program_limits v2) s a.settings a.count (ap check.stated (sym is) ∙ e)).0
 
 -- Of any other file the limit says what Reduce's does.
 module _ (s : List ℕ) (m : too_many s ≡ false) where

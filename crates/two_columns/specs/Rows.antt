@@ -1,8 +1,7 @@
 -- Rows, from the bytes of a file to the text: document 01's example, in both versions, a removable tree, a list that ends before the
 -- other, a conditional, a called arrow, a refusal.
-use Rattle.std.specs.Prelude.{◌≡◌, refl, List, [], ◌∷◌, map, ℕ}
-use Rattle.text.specs.Ascii.{ascii}
-use Rattle.text.specs.Decimal.{decimal, digits}
+use Rattle.std.specs.Prelude.{◌≡◌, refl, List, [], ◌∷◌, map, ℕ, codes}
+use Rattle.std.specs.Fmt.{digits}
 use Rattle.le.specs.Le.{u16_at, u32_at}
 use Rattle.tree.specs.Tree as tree
 use Rattle.tree.specs.Below as below
@@ -94,16 +93,16 @@ record Row : Type 0 where
 
 abbrev rows : List Row
 rows =
-    record { file = example; text = ascii "before after\n4/16/0 4/16/0\n9/9/0 9/9/0\nrecords 6 5\n" } ∷
-    record { file = spanned; text = ascii "before after\n4/16/0 4/16/0\n9/9/0 9/9/0\nrecords 6 5\n" } ∷
-    record { file = removable; text = ascii "before after\nrecords 1 0\n" } ∷
-    record { file = ended; text = ascii "before after\n1/16/0 -\nrecords 3 0\n" } ∷
-    record { file = conditional; text = ascii "before after\n0/16/0 0/16/0\n10/16/0 10/16/0\nrecords 6 5\n" } ∷
-    record { file = called; text = ascii "before after\n27/16/0 27/16/0\nrecords 4 4\n" } ∷
-    record { file = logical; text = ascii "refused 6\n" } ∷ []
+    record { file = example; text = codes "before after\n4/16/0 4/16/0\n9/9/0 9/9/0\nrecords 6 5\n" } ∷
+    record { file = spanned; text = codes "before after\n4/16/0 4/16/0\n9/9/0 9/9/0\nrecords 6 5\n" } ∷
+    record { file = removable; text = codes "before after\nrecords 1 0\n" } ∷
+    record { file = ended; text = codes "before after\n1/16/0 -\nrecords 3 0\n" } ∷
+    record { file = conditional; text = codes "before after\n0/16/0 0/16/0\n10/16/0 10/16/0\nrecords 6 5\n" } ∷
+    record { file = called; text = codes "before after\n27/16/0 27/16/0\nrecords 4 4\n" } ∷
+    record { file = logical; text = codes "refused 6\n" } ∷ []
 
 pub rows_hold : map (λ r. columns r.file) rows ≡ map (λ r. r.text) rows
-unfolding columns table side_by_side lines line column records_line refused_line decimal digits u16_at u32_at tree.recur tree.each below.all_below
+unfolding columns table side_by_side lines line column records_line refused_line digits u16_at u32_at tree.recur tree.each below.all_below
     tree.all_nodes rec.symbol_yes rec.allowed_facts rec.bits_within rec.pairs_ok rec.literal_ok rec.is_void_not_or_typeof rec.is_comparison rec.never_symbol_alone
     rec.symbol_ok rec.facts_ok rec.element_sub_ok rec.sub_ok rec.record_ok rec.included rec.logical_taken symbol.addition_agrees
     children.child_count_ok children.may_stand layout.version_in layout.width layout.span layout.start fields.place_in rec.end_ok file.file_bytes file.preorder file.bytes

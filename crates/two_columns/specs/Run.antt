@@ -1,27 +1,21 @@
 -- From Reduce's answer to the text.
-use Rattle.std.specs.Prelude.{◌≡◌, refl, Bool, true, false, List, [], ◌∷◌, ◌++◌, ltb, length, get_or, take, drop, replicate}
+use Rattle.std.specs.Prelude.{◌≡◌, refl, Bool, true, false, List, [], ◌∷◌, ◌++◌, ltb, length, get_or, take, drop, unwrap_or, Option, Some, None, Result, Ok, Err}
 use Rattle.std.proofs.Math.Path.{sym, ap}
-use Rattle.std.proofs.Common.{ap₂, ◌∙◌, true≢false, arith, length-append, le-ltb}
-use Prim.Native.Nat.{ℕ, zero, suc, ◌≤◌}
-use Rattle.std.proofs.lemmas.List.{length-replicate}
+use Rattle.std.proofs.Common.{ap₂, ◌∙◌, true≢false, arith, le-ltb}
+use Prim.Native.Nat.{ℕ, zero, suc, ◌<◌}
 use Rattle.std.proofs.Math.Seq.{take-append_seam}
 use Rattle.stated.specs.Stated.{Stated}
-use Rattle.stated.specs.Wrote.{Wrote}
+use Rattle.refusal.specs.declared.Refusal.{Refusal}
+use Rattle.refusal.specs.Number.{number_of}
 use Rattle.tree.specs.Tree.{Tree}
 use Rattle.tree.specs.Fields.{count_of}
 use Rattle.tree.specs.Layout.{version_in}
 use Rattle.tree.specs.Refusal.{reduce_limits, program_limits, refusal}
 use Rattle.tree.proofs.Accepted.{passed, counted_parts}
-use Rattle.reducer.specs.Answer.{least_output, most_output, most_enough, Case, refused_by, answered, stated, case_of, number, number_by, left, rewritten, stated_of, bytes_of, Promised, Answers}
-use Rattle.reducer.specs.declared.Reduced.{Reduced}
-use Rattle.reducer.specs.declared.Reduced.TheVariants.{Refused, Removable, Kept}
-use Rattle.two_columns.specs.Columns.{columns, columns_by, table, refused_line, Printed}
+use Rattle.reducer.specs.Answer.{least_output, most_output, most_enough, Case, refused_by, answered, stated, case_of, number, number_by, left, rewritten, stated_of, bytes_of, Answers}
+use Rattle.two_columns.specs.Columns.{columns, columns_by, table, refused_line}
 use Rattle.two_columns.specs.Kept.{GivenTable}
 use Rattle.two_columns.specs.Limit.{too_many, within}
-use Rattle.two_columns.specs.Table.{set_front}
-
-pub lent : length (replicate {A = ℕ} most_output 0) ≡ most_output
-lent = length-replicate {A = ℕ} most_output 0
 
 -- As much is lent as Reduce may need, so it never refuses with 9.
 number_is : (s : List ℕ) → number s most_output ≡ refusal reduce_limits s
@@ -35,13 +29,6 @@ number_is s = go (refusal reduce_limits s) refl
         rw enough refl
     go (suc k) e = refl
 
--- The text, from what is written.
-printed : (s : List ℕ) {old new l : List ℕ} {r : ℕ} → l ≡ columns s → Wrote old new 0 r l × (r ≤ length old) → Printed s old new r
-printed s {old} {new} {l} {r} e w =
-    let ends : r ≡ length l = omega (arith, w.0.ends) in
-    record { ends = ends ∙ ap length e; bytes = set_front w ∙ ap (λ (x : List ℕ). x ++ drop (length x) old) e }
-
--- The answer to an accepted file is no refusal.
 is_refused : Case → Bool
 is_refused Case.refused = true
 is_refused Case.removable = false
@@ -52,78 +39,61 @@ unfolding is_refused
 none_refused [] x = true≢false x
 none_refused (t ∷ ts) x = true≢false x
 
--- A file of version 2 that counts too many records.
-pub printed_many : {s lent text : List ℕ} {n r : ℕ} → (n ≡ refusal (program_limits (version_in s)) s) × (n ≡ 0 → ⊥) → Wrote lent text 0 r (refused_line n) × (r ≤ length lent) → Printed s lent text r
-unfolding columns
-printed_many {s} {n = n} e w = printed s (go n e.1 ∙ ap (λ (k : ℕ). columns_by k s) e.0) w
-  where
-    go : (k : ℕ) → (k ≡ 0 → ⊥) → refused_line k ≡ columns_by k s
-    go zero z = absurd (z refl)
-    go (suc k) z = refl
-
--- Any other file.
-module _ {s old new : List ℕ} {reduced : Reduced} (few : too_many s ≡ false) (room : length old ≡ most_output) (a : Answers s old new reduced) where
-  columns_is : columns_by (refusal reduce_limits s) s ≡ columns s
-  unfolding columns
-  columns_is = sym (ap (λ (k : ℕ). columns_by k s) (within s few))
-
+-- Of a file that counts no more records of version 2 than are taken.
+module _ {s old new : List ℕ} {reduced : Result (Option ℕ) Refusal} (few : too_many s ≡ false) (room : length old ≡ most_output) (a : Answers s old new reduced) where
   number_zero : number s (length old) ≡ refusal reduce_limits s
   number_zero = ap (number s) room ∙ number_is s
 
   answer : stated reduced ≡ stated_of (refusal reduce_limits s) s
   answer = a.answer ∙ ap (λ (k : ℕ). stated_of k s) number_zero
 
-  -- No number is answered of an accepted file.
-  is_accepted : {c : Case} {n : ℕ} → stated reduced ≡ answered c n → refusal reduce_limits s ≡ 0
-  is_accepted {c} {n} e = go (refusal reduce_limits s) (sym e ∙ answer)
-    where
-      go : (k : ℕ) → answered c n ≡ stated_of k s → k ≡ 0
-      go zero x = refl
-      go (suc k) x = sym (ap (λ (y : Stated Case). y.number) x)
-
-  -- The length that is answered is that of what is left.
-  length_is : {c : Case} {n : ℕ} → stated reduced ≡ answered c n → n ≡ length (rewritten s)
-  length_is {c} {n} e =
-      let x : answered c n ≡ answered (case_of (left s)) (length (rewritten s)) = sym e ∙ answer ∙ ap (λ (j : ℕ). stated_of j s) (is_accepted e) in
-      ap (λ (y : Stated Case). get_or y.values 0 0) x
-
-  pub printed_table : {c : Case} {n : ℕ} {lent text : List ℕ} {r : ℕ} → stated reduced ≡ answered c n → Wrote lent text 0 r (table s) × (r ≤ length lent) → Printed s lent text r
-  printed_table e w = printed s (sym (ap (λ (k : ℕ). columns_by k s) (is_accepted e)) ∙ columns_is) w
-
-  promised_is : refusal reduce_limits s ≡ 0 → Promised s
-  promised_is z = a.promised (number_zero ∙ z)
-
-  none : (l : List ℕ) → 0 ≡ length l → [] ≡ l
-  none [] e = refl
-  none (x ∷ l) e = absurd (omega (arith, e))
-
-  pub given_removable : {fits : ℕ} → reduced ≡ Removable → 384000 ≤ fits → GivenTable s [] fits
-  given_removable e f =
-      let z = is_accepted (ap stated e) in
-      record { accepted_is = z; promised = promised_is z; kept_is = none (rewritten s) (length_is (ap stated e)); fits = f }
-
-  module _ {n : ℕ} (e : reduced ≡ Kept n) where
-    written : new ≡ rewritten s ++ drop (length (rewritten s)) old
-    written = a.bytes ∙ ap (λ (k : ℕ). bytes_of k s old) (number_zero ∙ is_accepted (ap stated e))
-
-    pub given_kept : {fits : ℕ} → 384000 ≤ fits → GivenTable s (take n new) fits
-    given_kept f =
-        let z = is_accepted (ap stated e) in
-        record {
-          accepted_is = z;
-          promised = promised_is z;
-          kept_is = ap₂ take (length_is (ap stated e)) written ∙ take-append_seam (rewritten s) (drop (length (rewritten s)) old);
-          fits = f;
-        }
-
-  pub printed_refusal : {n : ℕ} {lent text : List ℕ} {r : ℕ} → reduced ≡ Refused n → Wrote lent text 0 r (refused_line n) × (r ≤ length lent) → Printed s lent text r
+  pub refused : {r : Refusal} → reduced ≡ Err r → number_of r ≡ refusal (program_limits (version_in s)) s
   unfolding is_refused
-  printed_refusal {n} e w = printed s (go (refusal reduce_limits s) (ap stated (sym e) ∙ answer) ∙ columns_is) w
+  refused {r} e = go (refusal reduce_limits s) (ap stated (sym e) ∙ answer) ∙ sym (within s few)
     where
-      go : (k : ℕ) → refused_by n ≡ stated_of k s → refused_line n ≡ columns_by k s
+      go : (k : ℕ) → refused_by (number_of r) ≡ stated_of k s → number_of r ≡ k
       go zero x = absurd (none_refused (left s) (ap (λ (y : Stated Case). is_refused y.case) x))
-      go (suc k) x = ap (λ (y : Stated Case). refused_line y.number) x
+      go (suc k) x = ap (λ (y : Stated Case). y.number) x
 
--- The text stands within the bytes lent.
-pub printed_within : {s old new : List ℕ} {r : ℕ} → Printed s old new r → r ≤ length new
-printed_within {s} {old} p = omega (arith, p.ends, ap length p.bytes, length-append (columns s) (drop (length (columns s)) old))
+  module _ {kept : Option ℕ} (e : reduced ≡ Ok kept) where
+    -- No number is answered of an accepted file.
+    accepted_is : refusal reduce_limits s ≡ 0
+    accepted_is = go (refusal reduce_limits s) kept (ap stated (sym e) ∙ answer)
+      where
+        go : (k : ℕ) (kept : Option ℕ) → stated (Ok kept) ≡ stated_of k s → k ≡ 0
+        go zero kept x = refl
+        go (suc k) None x = sym (ap (λ (y : Stated Case). y.number) x)
+        go (suc k) (Some n) x = sym (ap (λ (y : Stated Case). y.number) x)
+
+    -- The length that is answered is that of what is left.
+    length_is : unwrap_or kept 0 ≡ length (rewritten s)
+    length_is = go kept (ap stated (sym e) ∙ answer ∙ ap (λ (j : ℕ). stated_of j s) accepted_is)
+      where
+        go : (kept : Option ℕ) → stated (Ok kept) ≡ answered (case_of (left s)) (length (rewritten s)) → unwrap_or kept 0 ≡ length (rewritten s)
+        go None x = ap (λ (y : Stated Case). get_or y.values 0 0) x
+        go (Some n) x = ap (λ (y : Stated Case). get_or y.values 0 0) x
+
+    written : take (unwrap_or kept 0) new ≡ rewritten s
+    written =
+        let bytes : new ≡ rewritten s ++ drop (length (rewritten s)) old = a.bytes ∙ ap (λ (k : ℕ). bytes_of k s old) (number_zero ∙ accepted_is) in
+        ap₂ take length_is bytes ∙ take-append_seam (rewritten s) (drop (length (rewritten s)) old)
+
+    pub given : GivenTable s (take (unwrap_or kept 0) new)
+    given = record { accepted_is = within s few ∙ accepted_is; promised = a.promised (number_zero ∙ accepted_is); kept_is = written }
+
+-- The text of a file that is refused, and of one that is not.
+module _ (s : List ℕ) where
+  pub columns_refused : (r : Refusal) → number_of r ≡ refusal (program_limits (version_in s)) s → refused_line (number_of r) ≡ columns s
+  unfolding columns
+  columns_refused r e = go (number_of r) some ∙ ap (λ (k : ℕ). columns_by k s) e
+    where
+      some : 0 < number_of r
+      some = grind arith
+
+      go : (k : ℕ) → 0 < k → refused_line k ≡ columns_by k s
+      go zero l = absurd (omega arith)
+      go (suc k) l = refl
+
+  pub columns_accepted : refusal (program_limits (version_in s)) s ≡ 0 → table s ≡ columns s
+  unfolding columns
+  columns_accepted e = ap (λ (k : ℕ). columns_by k s) (sym e)

@@ -5,22 +5,40 @@ mod limit;
 mod line;
 mod table;
 
-ghost use Rattle.two_columns.specs.Columns.{Printed};
+ghost use Rattle.std.specs.Prelude.{◌≡◌, IfErr, IfOk};
+ghost use Rattle.refusal.specs.Number.{number_of};
+ghost use Rattle.tree.specs.Layout.{version_in};
+ghost use Rattle.tree.specs.Refusal.{program_limits, refusal};
+ghost use Rattle.two_columns.specs.Columns.{columns};
+ghost use Rattle.two_columns.specs.Kept.{GivenTable};
 
-use reducer::Reduced;
+use arrayvec::ArrayString;
+use refusal::Refusal;
 
-// Writes the text of the tree file src, or of its refusal, and returns how long it is. 384,000 bytes are enough for any file.
-pub fn write_columns(src: &[u8], out: &mut [u8; 384000]) -> usize
-    ensures { Printed src.now out.old out.new result }
+// The text of any file fits: 48 bytes for each of fewer than 7,998 effects, the first line and the last.
+pub const MOST_TEXT: usize = 384000;
+
+pub type Text = ArrayString<MOST_TEXT>;
+
+// Writes the text of the tree file src, or of its refusal, in place of what text holds.
+#[tactic(auto, using(crate::specs::Run::columns_refused, crate::specs::Run::columns_accepted))]
+pub fn write_columns(src: &[u8], text: &mut Text)
+    ensures { text.new.bytes ≡ columns src.now }
 {
-    if limit::too_many(src) {
-        return table::write_refusal(limit::refused_number(src), out);
-    }
+    text.clear();
     let mut kept = [0u8; reducer::MOST_OUTPUT];
-    let reduced = reducer::reduce(src, &mut kept);
-    match reduced {
-        Reduced::Refused(number) => table::write_refusal(number, out),
-        Reduced::Removable => table::write_table(src, &kept[..0], out),
-        Reduced::Kept(length) => table::write_table(src, &kept[..length], out),
+    match reduce(src, &mut kept) {
+        Ok(left) => table::push_table(text, src, left),
+        Err(refusal) => table::push_refusal(text, refusal),
     }
+}
+
+// What is left of the tree file src: a file, or nothing.
+fn reduce<'a>(src: &[u8], kept: &'a mut [u8; reducer::MOST_OUTPUT]) -> Result<&'a [u8], Refusal>
+    ensures given { IfOk result (λ left. GivenTable src.now left.now) }
+    ensures number { IfErr result (λ r. number_of r ≡ refusal (program_limits (version_in src.now)) src.now) }
+{
+    limit::check_count(src)?;
+    let length = reducer::reduce(src, kept)?.unwrap_or(0);
+    Ok(&kept[..length])
 }

@@ -1,57 +1,56 @@
 // A line for each effect of the longer of two lists.
-ghost use Rattle.std.specs.Prelude.{◌+◌, ◌*◌, ◌≤◌, max, ◌≡◌, length, drop};
-ghost use Rattle.stated.specs.Wrote.{Wrote};
+ghost use Rattle.std.specs.Prelude.{◌≡◌, ◌+◌, ◌*◌, ◌≤◌, ◌++◌, max, length, option_to_list};
+ghost use Rattle.arrayvec.specs.ArrayString.{array_string_len};
 ghost use Rattle.two_columns.specs.Columns.{column, cell, line, side_by_side};
 
+use crate::{MOST_TEXT, Text};
+use text::push_decimal;
+
 // place/kind/coercion
-fn write_column(effect: u64, out: &mut [u8], pos: usize) -> usize
-    requires { pos + 23 ≤ length out.old }
-    ensures { Wrote out.old out.new pos result (column effect) × (result ≤ pos + 23) }
+#[tactic(auto, using(crate::specs::Lines::place_few, crate::specs::Lines::kind_few, crate::specs::Lines::coercion_few), unfolding(crate::specs::Columns::column))]
+fn push_effect(text: &mut Text, effect: u64)
+    requires { array_string_len text.old + 23 ≤ MOST_TEXT }
+    ensures bytes { text.new.bytes ≡ text.old.bytes ++ column effect }
+    ensures short { array_string_len text.new ≤ array_string_len text.old + 23 }
 {
-    let place = text::write_decimal(effect / 512, out, pos);
-    let first = text::write_word(b"/", out, place);
-    let kind = text::write_decimal(effect / 2 % 256, out, first);
-    let second = text::write_word(b"/", out, kind);
-    text::write_decimal(effect % 2, out, second)
+    push_decimal(text, effect / 512);
+    text.push_str("/");
+    push_decimal(text, effect / 2 % 256);
+    text.push_str("/");
+    push_decimal(text, effect % 2);
 }
 
-// The effect i of a list, or that the list has ended.
-fn write_cell(list: &[u64], i: usize, out: &mut [u8], pos: usize) -> usize
-    requires { pos + 23 ≤ length out.old }
-    ensures { Wrote out.old out.new pos result (cell (drop i list.now)) × (result ≤ pos + 23) }
+// An effect of a list, or that the list has ended.
+fn push_cell(text: &mut Text, effect: Option<u64>)
+    requires { array_string_len text.old + 23 ≤ MOST_TEXT }
+    ensures bytes { text.new.bytes ≡ text.old.bytes ++ cell (option_to_list effect) }
+    ensures short { array_string_len text.new ≤ array_string_len text.old + 23 }
 {
-    if i < list.len() {
-        return write_column(list[i], out, pos);
+    match effect {
+        Some(effect) => push_effect(text, effect),
+        None => text.push_str("-"),
     }
-    text::write_word(b"-", out, pos)
 }
 
-fn write_line(before: &[u64], after: &[u64], i: usize, out: &mut [u8], pos: usize) -> usize
-    requires { pos + 48 ≤ length out.old }
-    ensures { Wrote out.old out.new pos result (line (drop i before.now) (drop i after.now)) × (result ≤ pos + 48) }
+#[tactic(auto, unfolding(crate::specs::Columns::line))]
+fn push_line(text: &mut Text, before: Option<u64>, after: Option<u64>)
+    requires { array_string_len text.old + 48 ≤ MOST_TEXT }
+    ensures bytes { text.new.bytes ≡ text.old.bytes ++ line (option_to_list before) (option_to_list after) }
+    ensures short { array_string_len text.new ≤ array_string_len text.old + 48 }
 {
-    let left = write_cell(before, i, out, pos);
-    let gap = text::write_word(b" ", out, left);
-    let right = write_cell(after, i, out, gap);
-    text::write_word(b"\n", out, right)
+    push_cell(text, before);
+    text.push_str(" ");
+    push_cell(text, after);
+    text.push_str("\n");
 }
 
-fn longer(a: usize, b: usize) -> usize
-    ensures { result ≡ max a b }
+#[tactic(auto, using(crate::specs::Lines::lined_none, crate::specs::Lines::lined_more, crate::specs::Lines::lined_all))]
+pub fn push_lines(text: &mut Text, before: &[u64], after: &[u64])
+    requires { array_string_len text.old + 48 * max (length before.now) (length after.now) ≤ MOST_TEXT }
+    ensures bytes { text.new.bytes ≡ text.old.bytes ++ side_by_side before.now after.now }
+    ensures short { array_string_len text.new ≤ array_string_len text.old + 48 * max (length before.now) (length after.now) }
 {
-    if a < b { b } else { a }
-}
-
-pub fn write_lines(before: &[u64], after: &[u64], out: &mut [u8], pos: usize) -> usize
-    requires { pos + 48 * max (length before.now) (length after.now) ≤ length out.old }
-    ensures { Wrote out.old out.new pos result (side_by_side before.now after.now) × (result ≤ pos + 48 * max (length before.now) (length after.now)) }
-{
-    let count = longer(before.len(), after.len());
-    let mut i = 0;
-    let mut next = pos;
-    while i < count {
-        next = write_line(before, after, i, out, next);
-        i += 1;
+    for i in 0..before.len().max(after.len()) {
+        push_line(text, before.get(i).copied(), after.get(i).copied());
     }
-    next
 }

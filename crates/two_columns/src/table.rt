@@ -1,52 +1,54 @@
 // What is printed of an accepted file, and of a refused one.
-ghost use Rattle.std.specs.Prelude.{◌+◌, ◌≤◌, ◌≡◌, length};
-ghost use Rattle.stated.specs.Wrote.{Wrote};
+ghost use Rattle.std.specs.Prelude.{◌≡◌, ◌+◌, ◌≤◌, ◌++◌, [], length};
+ghost use Rattle.arrayvec.specs.ArrayString.{array_string_len};
+ghost use Rattle.refusal.specs.Number.{number_of};
 ghost use Rattle.two_columns.specs.Columns.{records_line, refused_line, table};
 ghost use Rattle.two_columns.specs.Kept.{effects_of, records_of, GivenList, GivenTable};
 
-use crate::line;
-use effects::Listed;
+use crate::{MOST_TEXT, Text, line};
+use refusal::Refusal;
+use text::push_decimal;
 
-pub fn write_refusal(number: u8, out: &mut [u8]) -> usize
-    requires { 29 ≤ length out.old }
-    ensures { Wrote out.old out.new 0 result (refused_line number) × (result ≤ length out.old) }
+#[tactic(auto, using(crate::specs::Lines::number_few), unfolding(crate::specs::Columns::refused_line))]
+pub fn push_refusal(text: &mut Text, refusal: Refusal)
+    requires { array_string_len text.old + 29 ≤ MOST_TEXT }
+    ensures { text.new.bytes ≡ text.old.bytes ++ refused_line (number_of refusal) }
 {
-    let word = text::write_word(b"refused ", out, 0);
-    let end = text::write_decimal(number as u64, out, word);
-    text::write_word(b"\n", out, end)
+    text.push_str("refused ");
+    push_decimal(text, u64::from(refusal.number()));
+    text.push_str("\n");
 }
 
 // The accepted file src, and what is left of it: a file, or nothing.
-pub fn write_table(src: &[u8], left: &[u8], out: &mut [u8]) -> usize
-    requires { GivenTable src.now left.now (length out.old) }
-    ensures { Wrote out.old out.new 0 result (table src.now) × (result ≤ length out.old) }
+#[tactic(auto, using(crate::specs::Kept::file_taken, crate::specs::Kept::given_kept))]
+pub fn push_table(text: &mut Text, src: &[u8], left: &[u8])
+    requires empty { text.old.bytes ≡ [] }
+    requires given { GivenTable src.now left.now }
+    ensures { text.new.bytes ≡ table src.now }
 {
     let mut before = [0u64; 4000];
     let mut after = [0u64; 7998];
-    let seen = list_file(src, &mut before);
-    let kept = list_file(left, &mut after);
-    let head = text::write_word(b"before after\n", out, 0);
-    let lines = line::write_lines(&before[..seen], &after[..kept], out, head);
-    write_records(records(src), records(left), out, lines)
+    let before = list_file(src, &mut before);
+    let after = list_file(left, &mut after);
+    text.push_str("before after\n");
+    line::push_lines(text, before, after);
+    push_records(text, records(src), records(left));
 }
 
-// The effects of a file that List effects accepts; none where nothing is left.
-fn list_file(file: &[u8], entries: &mut [u64]) -> usize
+// The effects of a file that List effects accepts; none where nothing is left, which it refuses.
+#[tactic(auto, using(crate::specs::Kept::listed_list))]
+fn list_file<'a>(file: &[u8], entries: &'a mut [u64]) -> &'a [u64]
     requires { GivenList file.now (length entries.old) }
-    ensures { Wrote entries.old entries.new 0 result (effects_of file.now) × (result ≤ length entries.old) }
+    ensures list { result.now ≡ effects_of file.now }
+    ensures fits { length result.now ≤ length entries.old }
 {
-    if file.len() == 0 {
-        return 0;
-    }
-    let listed = effects::list_effects(file, entries);
-    let Listed::Count(count) = listed else {
-        return 0;
-    };
-    count
+    let count = effects::list_effects(file, entries).unwrap_or(0);
+    &entries[..count]
 }
 
 // The record count of a file; none where nothing is left.
-fn records(file: &[u8]) -> usize
+#[tactic(auto, unfolding(crate::specs::Kept::records_of))]
+fn records(file: &[u8]) -> u16
     ensures { result ≡ records_of file.now }
 {
     if file.len() < fields::HEADER_BYTES {
@@ -55,13 +57,14 @@ fn records(file: &[u8]) -> usize
     le::get16(file, 6)
 }
 
-fn write_records(n: usize, m: usize, out: &mut [u8], pos: usize) -> usize
-    requires { pos + 50 ≤ length out.old }
-    ensures { Wrote out.old out.new pos result (records_line n m) × (result ≤ pos + 50) }
+#[tactic(auto, using(crate::specs::Lines::number_few), unfolding(crate::specs::Columns::records_line))]
+fn push_records(text: &mut Text, n: u16, m: u16)
+    requires { array_string_len text.old + 50 ≤ MOST_TEXT }
+    ensures { text.new.bytes ≡ text.old.bytes ++ records_line n m }
 {
-    let word = text::write_word(b"records ", out, pos);
-    let before = text::write_decimal(n as u64, out, word);
-    let gap = text::write_word(b" ", out, before);
-    let after = text::write_decimal(m as u64, out, gap);
-    text::write_word(b"\n", out, after)
+    text.push_str("records ");
+    push_decimal(text, u64::from(n));
+    text.push_str(" ");
+    push_decimal(text, u64::from(m));
+    text.push_str("\n");
 }

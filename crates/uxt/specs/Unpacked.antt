@@ -15,7 +15,7 @@ use Rattle.tree.specs.File.{file_bytes}
 use Rattle.tree.proofs.Accepted.{accepted}
 use Rattle.rules.specs.Effects.{effects}
 use Rattle.rules.proofs.Theorems.{few_effects}
-use Rattle.readings.specs.Node.{settings_given}
+use Rattle.readings.specs.Given.{settings_given}
 use Rattle.effects.specs.Answer as listing
 use Rattle.reducer.specs.Answer as reduction
 use Rattle.reducer.specs.Run.{promises, unnumbered}
@@ -28,7 +28,6 @@ read_plain (suc zero) = derived.yes_or_no true
 read_plain (suc (suc n)) = derived.refused_by (suc (suc n))
 
 pub plain_derived : (scopes ancestors : List ℕ) → read_plain (plain (derived.derived_question scopes ancestors)) ≡ derived.derived_question scopes ancestors
-unfolding derived.derived_question
 plain_derived scopes ancestors = go (any_over 7 scopes) (any_over 4 ancestors) (derived.derived_constructor_this_scope scopes ancestors)
   where
     go : (a b d : Bool) → read_plain (plain (cond a (derived.refused_by 11) (cond b (derived.refused_by 12) (derived.yes_or_no d)))) ≡ cond a (derived.refused_by 11) (cond b (derived.refused_by 12) (derived.yes_or_no d))

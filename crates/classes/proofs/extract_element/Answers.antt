@@ -1,45 +1,31 @@
-use Rattle.std.proofs.Common.{refl, ◌∙◌, arith}
-use Rattle.readings.specs.Own.{tells_static_value}
-use Rattle.classes.specs.Extract.{element_first, key_within, key_given, key_ends, key_frame, key_then_value, only_key}
+use Rattle.std.specs.Prelude.{◌≡◌, false, true}
+use Rattle.std.proofs.Common.{ap, arith, sym, ◌∙◌}
+use Rattle.rules.specs.Class.{has_static_value}
+use Rattle.rules.specs.Facts.{flagged}
+use Rattle.rules.specs.Lists.{filter}
+use Rattle.readings.specs.Alone.{own_static_value}
+use Rattle.readings.specs.View.{tree}
+use Rattle.output.specs.Trees.{wrote_as, wrote_both}
+use Rattle.classes.specs.Class.{Parts, first_ends, first_given, others_given, parts_size, with_value, without_value}
 use Rattle.classes.proofs.extract_element.Goals as goal
 
-pub first_size-key-requires : goal.first_size-key-requires
-first_size-key-requires c = element_first _ _ c.sub_at.ensures.0 refl c.requires
-
 pub copy_if_flagged-next-requires : goal.copy_if_flagged-next-requires
-copy_if_flagged-next-requires c = key_given _ _ c.sub_at.ensures.0 refl _ c.first_size-key.ensures c.requires
+copy_if_flagged-next-requires c =
+    let k : Parts c.args.element _ c.key_and_value.result.0 c.key_and_value.result.1 = record { first = c.key_and_value.ensures.first; others = c.key_and_value.ensures.others; source = c.key_and_value.ensures.source } in
+    first_given k c.requires.same (omega (arith, c.requires.fits, parts_size k))
 
-pub overflow_sub-value-then-has_static_value_at : goal.overflow_sub-value-then-has_static_value_at
-overflow_sub-value-then-has_static_value_at c = omega (arith, key_within _ _ c.sub_at.ensures.0 refl _ c.first_size-key.ensures c.requires)
+pub copy_trees-requires : goal.copy_trees-requires
+copy_trees-requires c =
+    let k : Parts c.args.element _ c.key_and_value.result.0 c.key_and_value.result.1 = record { first = c.key_and_value.ensures.first; others = c.key_and_value.ensures.others; source = c.key_and_value.ensures.source } in
+    others_given k c.requires.same c.copy_if_flagged-next.ensures
+    (omega (arith, c.requires.fits, parts_size k, first_ends c.key_and_value.result.0 c.copy_if_flagged-next.ensures))
 
-pub overflow_add-at-then-has_static_value_at-2 : goal.overflow_add-at-then-has_static_value_at-2
-overflow_add-at-then-has_static_value_at-2 c = omega (arith, c.requires.input.inside, key_within _ _ c.sub_at.ensures.0 refl _ c.first_size-key.ensures c.requires)
+pub returns-then-has_static_value : goal.returns-then-has_static_value
+returns-then-has_static_value c =
+    let has : has_static_value (tree c.args.element) ≡ true = sym (own_static_value _ _) ∙ sym c.has_static_value.ensures ∙ c.if-has_static_value.true in
+    wrote_as (wrote_both _ _ c.copy_if_flagged-next.ensures c.copy_trees.ensures) (rw (c.key_and_value.ensures.first, c.key_and_value.ensures.others) (with_value (tree c.args.element) has))
 
-pub copy_records-requires : goal.copy_records-requires
-copy_records-requires c =
-    let g = c.requires in
-    let l = key_within _ _ c.sub_at.ensures.0 refl _ c.first_size-key.ensures g in
-    let b = key_frame _ _ c.sub_at.ensures.0 refl _ c.first_size-key.ensures c.copy_if_flagged-next.ensures g in (
-      omega (arith, g.input.inside),
-      omega (arith, g.fits, key_ends _ _ c.sub_at.ensures.0 refl _ c.first_size-key.ensures c.copy_if_flagged-next.ensures g, b.room),
-      b.same ∙ g.same,
-    )
-
-pub overflow_add-result : goal.overflow_add-result
-overflow_add-result c =
-    let g = c.requires in
-    omega (
-      arith,
-      g.fits,
-      key_within _ _ c.sub_at.ensures.0 refl _ c.first_size-key.ensures g,
-      key_ends _ _ c.sub_at.ensures.0 refl _ c.first_size-key.ensures c.copy_if_flagged-next.ensures g,
-    )
-
-pub returns-then-has_static_value_at : goal.returns-then-has_static_value_at
-returns-then-has_static_value_at c =
-    key_then_value _ _ c.sub_at.ensures.0 refl _ c.first_size-key.ensures c.copy_if_flagged-next.ensures _ (tells_static_value c.has_static_value_at.ensures) c.if-has_static_value_at.true _ refl
-    c.copy_records.ensures
-
-pub returns : goal.returns
-returns c =
-    only_key _ _ c.sub_at.ensures.0 refl _ c.first_size-key.ensures c.copy_if_flagged-next.ensures _ (tells_static_value c.has_static_value_at.ensures) c.if-has_static_value_at.false
+pub returns-else-has_static_value : goal.returns-else-has_static_value
+returns-else-has_static_value c =
+    let none : has_static_value (tree c.args.element) ≡ false = sym (own_static_value _ _) ∙ sym c.has_static_value.ensures ∙ c.if-has_static_value.false in
+    wrote_as c.copy_if_flagged-next.ensures (ap (filter flagged) c.key_and_value.ensures.first ∙ without_value (tree c.args.element) none)

@@ -1,18 +1,27 @@
-use Rattle.std.proofs.Common.{arith}
-use Rattle.classes.specs.Extract.{extract_start, extract_done, subtree_some, element_given, extract_on}
+use Rattle.std.proofs.Common.{sym, ap}
+use Rattle.rules.specs.Class.{extracted_of_element}
+use Rattle.rules.specs.Lists.{concat_map}
+use Rattle.readings.specs.View.{tree}
+use Rattle.output.specs.Given.{first_tree, other_trees}
+use Rattle.output.specs.Records.{before_all}
+use Rattle.output.specs.Trees.{wrote_as, wrote_both, wrote_none}
+use Rattle.classes.specs.Class.{extracted_small}
 use Rattle.classes.proofs.extract_elements.Goals as goal
 
-pub loop-p-init : goal.loop-p-init
-loop-p-init c = extract_start c.requires
-
 pub extract_element-next-requires : goal.extract_element-next-requires
-extract_element-next-requires c = element_given c.loop-p.invariant c.loop-p-test.true _ c.subtree_at-subtree.ensures.0
+extract_element-next-requires c = first_tree c.loop-element.element-iterator c.next.new.self c.in-Some.element c.in-Some.ensures.steps c.loop-element.invariant.given
 
-pub loop-p-smaller : goal.loop-p-smaller
-loop-p-smaller c = omega (arith, c.subtree_at-subtree.ensures.0, subtree_some c.loop-p.invariant c.loop-p-test.true)
-
-pub loop-p-preserved : goal.loop-p-preserved
-loop-p-preserved c = extract_on c.loop-p.invariant c.loop-p-test.true _ c.subtree_at-subtree.ensures.0 c.extract_element-next.ensures c.extract_element-next.auto.out
+pub loop-element-preserved : goal.loop-element-preserved
+loop-element-preserved c = record {
+  can = tt;
+  finite = tt;
+  given = other_trees c.loop-element.element-iterator c.next.new.self c.in-Some.element c.in-Some.ensures.steps c.loop-element.invariant.given c.extract_element-next.ensures (extracted_small (tree c.in-Some.element));
+  whole = λ new end w.
+      c.loop-element.invariant.whole new end
+      (wrote_as (wrote_both _ _ c.extract_element-next.ensures w) (sym (ap (concat_map extracted_of_element) c.in-Some.ensures.steps.0)));
+}
 
 pub returns : goal.returns
-returns c = extract_done c.loop-p.invariant c.loop-p-test.false
+returns c =
+    c.loop-element.invariant.whole c.loop-element.out c.loop-element.next
+    (wrote_as (wrote_none (before_all c.loop-element.out c.loop-element.next)) (sym (ap (concat_map extracted_of_element) c.in-None.ensures.steps.0.0)))

@@ -1,8 +1,7 @@
-use Rattle.std.proofs.Common.{length, ◌-◌, ◌≤◌}
+-- Each case takes bytes of the list.
+use Rattle.std.proofs.Common.{◌+◌, ◌≤◌}
 use Rattle.replay.proofs.replay_cases.Given as goal
 
-abbrev pub invariant-loop-start : goal.invariant-loop-start
-invariant-loop-start l = (l.at ≤ length l.input) × (l.cases ≤ l.at) × (l.different ≤ l.cases)
-
-abbrev pub decreases-loop-start : goal.decreases-loop-start
-decreases-loop-start l = length l.input - l.at
+abbrev pub invariant-loop-file : goal.invariant-loop-file
+invariant-loop-file l = (l.different ≤ l.cases)
+    × (l.cases + goal.iterator-loop-file.remaining l.file-iterator ≤ goal.iterator-loop-file.remaining l.initial.file-iterator)

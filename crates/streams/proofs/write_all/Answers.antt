@@ -1,15 +1,15 @@
-use Rattle.std.proofs.Common.{◌≡◌, ℕ, ◌+◌, ◌-◌, List, ◌++◌, rules, length, take, drop, sym, ap, ◌∙◌, subst}
-use Rattle.std.proofs.lemmas.List.{take_rest}
+use Rattle.std.proofs.Common.{◌≡◌, ◌+◌, ◌≤◌, ◌++◌, arith, length, take, drop, sym, ap, ◌∙◌, subst, length-drop}
+use Rattle.std.proofs.lemmas.List.{take_rest, drop-drop}
 use Rattle.std.specs.Io.KnownBytes.{Appends}
 use Rattle.std.proofs.KnownBytes.{Appends-trans}
 use lib.Seq.{take-add}
 use Rattle.streams.proofs.write_all.Goals as goal
 
-take-further : (a n : ℕ) (xs : List ℕ) → take a xs ++ take n (take (length xs - a) (drop a xs)) ≡ take (a + n) xs
-take-further a n xs = ap (λ (l : List ℕ). take a xs ++ take n l) (take_rest xs a) ∙ sym (take-add a n xs)
-
-pub loop-done-preserved : goal.loop-done-preserved
-loop-done-preserved g c =
-    let (_, before) = c.loop-done.invariant in
-    let joined = Appends-trans _ _ _ _ _ before c.in-Ok.ensures.bytes in
-    (search rules, subst (Appends _ _) (take-further c.loop-done.done c.in-Ok.n c.args.bytes.now) joined)
+pub loop-rest-preserved : goal.loop-rest-preserved
+loop-rest-preserved g c =
+    let bytes = c.args.bytes.now in
+    let more = c.in-Ok.n in
+    let (n, within, stands, before) = c.loop-rest.invariant in
+    let fits : n + more ≤ length bytes = omega (arith, ap length stands, length-drop n bytes, c.in-Ok.ensures.bound) in
+    let written : take n bytes ++ take more c.loop-rest.rest.now ≡ take (n + more) bytes = ap (λ l. take n bytes ++ take more l) stands ∙ sym (take-add n more bytes) in
+    (n + more, fits, take_rest c.loop-rest.rest.now more ∙ ap (drop more) stands ∙ drop-drop more n bytes, subst (Appends _ _) written (Appends-trans _ _ _ _ _ before c.in-Ok.ensures.bytes))

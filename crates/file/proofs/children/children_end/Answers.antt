@@ -1,53 +1,51 @@
-use Rattle.std.proofs.Common.{refl, sym, ◌∙◌, arith, true, false}
-use Rattle.file.specs.Steps.{end_done, end_zero, end_over, end_past, end_stop, end_on}
+use Rattle.std.proofs.Common.{◌≡◌, ◌+◌, ◌-◌, refl, sym, ◌∙◌, arith, true, false}
+use Rattle.file.specs.Steps.{end_done, end_past, end_zero, end_over, end_stop, end_on}
 use Rattle.file.specs.Parents.{permits_others, permits_first, asked}
 use Rattle.file.proofs.children.children_end.Goals as goal
+use Rattle.file.proofs.children.children_end.Goals.{then-size-eq0-via-then-size-eq0, then-size-eq0-via-else-size-eq0+then-end-at-2, then-size-eq0-via-else-size-eq0+else-end-at-2+then-not-has}
 
-pub loop-k-init : goal.loop-k-init
-loop-k-init c =
-    let o = permits_others _ c.kind_at-kind.ensures.0 c.kinds_under-kinds.ensures in
+pub loop-init : goal.loop-init
+loop-init c =
+    let o = permits_others _ c.kind-kind.ensures c.kinds_under-kinds.ensures in
     record {
       others = o;
       walking = record {
         first = true;
-        permits = permits_first _ _ c.kind_at-kind.ensures.0 c.sub_at.ensures.0 c.first_under-taken.ensures o;
-        same = refl;
+        permits = permits_first _ _ c.kind-kind.ensures c.sub.ensures c.first_under-taken.ensures o;
+        same = let z : c.children-n.result - 0 ≡ c.children-n.result = omega arith in rw (z, c.children-n.ensures.0) refl;
       };
     }
 
-pub returns-then-end-p : goal.returns-then-end-p
-returns-then-end-p c = sym (c.loop-k.invariant.walking.same ∙ end_past _ _ _ _ _ _ c.loop-k-test.true c.if-end-p.true)
+pub returns-then-end-at : goal.returns-then-end-at
+returns-then-end-at c = rw (← c.children-n.ensures.0) (sym (c.loop.invariant.walking.same ∙ end_past _ _ _ _ _ _ (omega arith) c.if-end-at.true))
 
 pub returns-then-size-eq0 : goal.returns-then-size-eq0
 returns-then-size-eq0 c =
-    sym (c.loop-k.invariant.walking.same ∙ end_zero _ _ _ _ _ _ c.loop-k-test.true (sym c.subtree_at-size.ensures.0 ∙ c.if-size-eq0.true))
+    let k = c.loop.invariant.walking in
+    rw (← c.children-n.ensures.0)
+    (sym (k.same
+    ∙ elim c.then-size-eq0.branch [
+      | then-size-eq0-via-then-size-eq0 w ↦ end_zero _ _ _ _ _ _ (omega arith) (omega (arith, c.subtree-size.ensures.0))
+      | then-size-eq0-via-else-size-eq0+then-end-at-2 w ↦ end_over _ _ _ _ _ _ (omega arith) (omega (arith, c.subtree-size.ensures.0))
+      | then-size-eq0-via-else-size-eq0+else-end-at-2+then-not-has w ↦ end_stop _ _ _ _ _ _ (omega arith) (asked k w.kind.ensures w.has.ensures ∙ w.if-not-has.true)
+    ]))
 
-pub returns-then-end-p-2 : goal.returns-then-end-p-2
-returns-then-end-p-2 c =
-    sym (c.loop-k.invariant.walking.same ∙ end_over _ _ _ _ _ _ c.loop-k-test.true (omega (arith, c.subtree_at-size.ensures.0)))
-
-pub returns-then-not-has : goal.returns-then-not-has
-returns-then-not-has c =
-    let w = c.loop-k.invariant.walking in
-    sym (w.same
-    ∙ end_stop _ _ _ _ _ _ _ c.loop-k-test.true c.subtree_at-size.ensures.0 c.if-size-eq0.false (omega arith)
-    (asked w c.kind_at.ensures.0 c.has.ensures ∙ c.if-not-has.true))
-
-pub loop-k-preserved : goal.loop-k-preserved
-loop-k-preserved c =
-    let o = c.loop-k.invariant.others in
-    let w = c.loop-k.invariant.walking in
+pub loop-preserved : goal.loop-preserved
+loop-preserved c =
+    let k = c.loop.invariant.walking in
     record {
-      others = o;
+      others = c.loop.invariant.others;
       walking = record {
         first = false;
-        permits = o;
+        permits = c.loop.invariant.others;
         same =
-            w.same
-            ∙ end_on _ _ _ _ _ _ _ c.loop-k-test.true c.subtree_at-size.ensures.0 c.if-size-eq0.false (omega arith)
-            (asked w c.kind_at.ensures.0 c.has.ensures ∙ c.if-not-has.false);
+            let z : c.children-n.result - (c.loop.counter + 1) ≡ c.children-n.result - c.loop.counter - 1 = omega arith in
+            rw (z, c.subtree-size.ensures.0)
+            (k.same
+            ∙ end_on _ _ _ _ _ _ (omega arith) (omega (arith, c.subtree-size.ensures.0)) (omega (arith, c.subtree-size.ensures.0))
+            (asked k c.kind.ensures c.has.ensures ∙ c.if-not-has.false));
       };
     }
 
 pub returns : goal.returns
-returns c = sym (c.loop-k.invariant.walking.same ∙ end_done _ _ _ _ _ _ c.loop-k-test.false)
+returns c = rw (← c.children-n.ensures.0) (sym (c.loop.invariant.walking.same ∙ end_done _ _ _ _ _ _ (omega arith)))

@@ -1,13 +1,10 @@
-use Rattle.std.proofs.Common.{◌+◌, false}
+use Rattle.std.proofs.Common.{◌+◌, ◌-◌, false}
 use Rattle.tree.specs.Fields.{head_at}
 use Rattle.file.specs.Parents.{Permits, Walking}
 use Rattle.file.proofs.children.children_end.Given as goal
 
-abbrev pub invariant-loop-k : goal.invariant-loop-k
-invariant-loop-k l = record {
-  others : Permits l.kinds (head_at l.src l.i) false;
-  walking : Walking l.src (head_at l.src l.i) l.n (l.i + 1) l.end l.taken l.k l.p;
+abbrev pub invariant-loop : goal.invariant-loop
+invariant-loop l = record {
+  others : Permits l.kinds (head_at l.node.src.now l.node.at) false;
+  walking : Walking l.node.src.now (head_at l.node.src.now l.node.at) l.n (l.node.at + 1) l.end l.taken (l.n - l.counter) l.at;
 }
-
-abbrev pub decreases-loop-k : goal.decreases-loop-k
-decreases-loop-k l = l.k

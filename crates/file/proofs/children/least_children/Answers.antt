@@ -1,6 +1,10 @@
-use Rattle.std.proofs.Common.{arith}
-use Rattle.file.specs.Bounds.{least_children_below}
+use Rattle.std.proofs.Common.{refl, ◌∙◌, arith}
+use Rattle.std.proofs.lemmas.Bool.Decides.{nat_tests}
+use Rattle.tree.specs.Below.{all_below}
+use Rattle.file.specs.Kinds.{bits_of, table_is}
+use Rattle.file.specs.Bounds.{least_children}
 use Rattle.file.proofs.children.least_children.Goals as goal
 
 pub returns : goal.returns
-returns c = least_children_below c.args.kind (omega arith)
+unfolding all_below bits_of
+returns c = c.bits_of.ensures ∙ table_is _ _ least_children refl (λ k l. grind (arith, nat_tests)) _

@@ -5,8 +5,8 @@ use Rattle.file.proofs.depth.+levels_ok.Given as goal
 abbrev pub decreases-levels_ok : goal.decreases-levels_ok
 decreases-levels_ok l = l.depth
 
-abbrev pub invariant-loop-p : goal.invariant-loop-p
-invariant-loop-p l = Walked l.src l.at l.size l.depth l.p l.end
+abbrev pub invariant-loop-next : goal.invariant-loop-next
+invariant-loop-next l = Walked l.src l.at l.size l.depth l.next l.end
 
-abbrev pub decreases-loop-p : goal.decreases-loop-p
-decreases-loop-p l = l.end - l.p
+abbrev pub decreases-loop-next : goal.decreases-loop-next
+decreases-loop-next l = l.end - l.next

@@ -1,15 +1,13 @@
-use Rattle.std.proofs.Common.{refl, true, false, arith}
-use Rattle.output.specs.Lists.{search_done, search_found, search_on, spanned_some, kind_is, kind_not}
+use Rattle.std.proofs.Common.{rules}
+use Rattle.std.proofs.lemmas.Iterator.Search.{any_from_yields_List}
+use borrow.Author.Tests.{tests}
+use Rattle.rules.specs.Handler.{is_kind, is_spread}
+use Rattle.readings.specs.At.{tree_at}
+use Rattle.readings.specs.Yields.{yields}
 use Rattle.output.proofs.list.any_spread.Goals as goal
 
-pub returns-then-kind_at-eq-SPREAD : goal.returns-then-kind_at-eq-SPREAD
-returns-then-kind_at-eq-SPREAD c = search_found c.loop-p.invariant c.loop-p-test.true true (kind_is 9 _ c.kind_at.ensures.0 c.if-kind_at-eq-SPREAD.true) refl
-
-pub loop-p-smaller : goal.loop-p-smaller
-loop-p-smaller c = omega (arith, c.subtree_at-p.ensures.0, spanned_some c.loop-p.invariant.rest c.loop-p-test.true)
-
-pub loop-p-preserved : goal.loop-p-preserved
-loop-p-preserved c = search_on c.loop-p.invariant c.loop-p-test.true false (kind_not 9 _ c.kind_at.ensures.0 c.if-kind_at-eq-SPREAD.false) refl _ c.subtree_at-p.ensures.0
-
 pub returns : goal.returns
-returns c = search_done c.loop-p.invariant c.loop-p-test.false
+unfolding is_kind tree_at
+returns c = record {
+  by = λ ts d. any_from_yields_List is_spread c.any.new.self _ _ c.any.ensures.ran (yields ts (c.trees_between.ensures.by ts d)) (λ x b q k. search (rules, tests));
+}

@@ -1,12 +1,14 @@
-use Rattle.std.proofs.Common.{arith}
-use Rattle.output.specs.Lists.{count_done, count_on, spanned_some}
+use Rattle.std.proofs.Common.{◌-◌, arith, inl}
+use Rattle.std.proofs.lemmas.Iterator.Consumers.{count_from_yields_List}
+use Rattle.readings.specs.At.{forest_at}
+use Rattle.readings.specs.Yields.{yields}
+use Rattle.output.specs.Lists.{few_trees}
 use Rattle.output.proofs.list.count_trees.Goals as goal
 
-pub loop-p-smaller : goal.loop-p-smaller
-loop-p-smaller c = omega (arith, c.subtree_at-p.ensures.0, spanned_some c.loop-p.invariant.rest c.loop-p-test.true)
-
-pub loop-p-preserved : goal.loop-p-preserved
-loop-p-preserved c = count_on c.loop-p.invariant c.loop-p-test.true _ c.subtree_at-p.ensures.0
+pub count-requires-clause-fits : goal.count-requires-clause-fits
+count-requires-clause-fits c =
+    let w = c.trees_between.result in
+    inl (omega (arith, few_trees (forest_at w.src.now w.at (w.end - w.at)), w.held.1, c.trees_between.type_inv))
 
 pub returns : goal.returns
-returns c = count_done c.loop-p.invariant c.loop-p-test.false
+returns c = record { by = λ ts d. count_from_yields_List c.trees_between.result _ c.count.ensures.ran (yields ts (c.trees_between.ensures.by ts d)) }

@@ -1,153 +1,231 @@
-use Rattle.std.proofs.Common.{refl, arith}
-use Rattle.readings.specs.Split.{some_size, some_depth}
-use Rattle.handlers.specs.declared.outcome.Rewrite.TheVariants.{Sequence, Array, Comparison}
+use Rattle.std.specs.Prelude.{◌≡◌, refl, map, drop, ◌+◌, ◌-◌, ◌≤◌, []}
+use Rattle.std.proofs.Common.{ap, arith, sym, ◌∙◌}
+use Rattle.tree.specs.Tree.{trees, forest, forest_trees, one, records, size}
+use Rattle.rules.specs.Lists.{concat_map}
+use Rattle.rules.specs.Reduce.{reduce, fold_arguments_into_needed_expressions}
+use Rattle.rules.specs.Results.{reduced}
+use Rattle.rules.proofs.Lists.{all_drop}
+use Rattle.readings.specs.Given.{given}
+use Rattle.readings.specs.View.{left, tree}
+use Rattle.effects.specs.Listing.{listable_kids, some_level}
+use Rattle.effects.specs.Taken.{others}
+use Rattle.handlers.specs.Outcome.{HandledAs}
+use Rattle.handlers.specs.declared.outcome.Outcome.TheVariants as outcomes
 use Rattle.handlers.specs.declared.outcome.Rewrite.TheVariants as rewrites
-use Rattle.reducer.specs.Expression.{as_made, inner_given, outer_given, removable_done, unchanged_done, unwrapped_done, in_order_list, sequence_done, array_done, comparison_done, walked_given, template_done, object_done, callee_first, callee_within, arguments_given, arguments_list, arguments_done, addition_done, class_given, class_done}
-use Rattle.reducer.specs.Conditional.{arms_within, consequent_given, alternate_given, test_given, test_same, test_room, both_gone, arms_given, conditional_done}
-use Rattle.reducer.specs.Children.{walk_done, child_some, child_within, child_given, walk_on}
-use Rattle.reducer.specs.Child.{child_held, wrapped_given, child_wrapped, reduced_given, child_reduced}
+use Rattle.output.specs.Given.{step_size, trees_size}
+use Rattle.output.specs.Trees.{wrote_as, wrote_over, copied_trees}
+use Rattle.rewrite.specs.Waiting.{waits_after}
+use Rattle.reducer.specs.Child.{child_copy, child_held, child_reduced, child_settled, child_small, child_tree, child_wrapped, given_settle, reduced_few}
+use Rattle.reducer.specs.Children.{next_given, walk_done, walk_on, walk_start}
+use Rattle.reducer.specs.Conditional.{Arms, arms_given, arms_size, both_gone, conditional_done, first_given, second_given, test_given, test_room}
+use Rattle.reducer.specs.Expression.{arguments_wrote, as_made, as_outcome, becomes_left, class_given, copy_given, in_order_wrote, inner_given, kids_few, list_given, object_done, others_few, outcome_done, outer_given, removable_done, template_done, walked_as, walked_given}
 use Rattle.reducer.proofs.expression.+expression.Goals as goal
 
-pub reduce_child-returns-then-waits_at : goal.reduce_child-returns-then-waits_at
-reduce_child-returns-then-waits_at t c = child_held _ c.waits_at.ensures c.if-waits_at.true (some_size c.requires.input) c.hold-held.ensures
+-- ---- one child
+
+pub reduce_child-returns-then-waits : goal.reduce_child-returns-then-waits
+reduce_child-returns-then-waits t c = child_held c.args.part (given c.args.settings) (tree c.args.node) c.waits.ensures c.if-waits.true c.hold-held.ensures
 
 pub reduce_child-settle-requires : goal.reduce_child-settle-requires
-reduce_child-settle-requires t c = wrapped_given c.wrap_spread-wrapped.ensures c.requires
+reduce_child-settle-requires t c = given_settle c.requires _ c.wrap_spread-wrapped.ensures.wrote (omega (arith, c.wrap_spread-wrapped.ensures.few))
 
-pub reduce_child-returns-then-wraps_at : goal.reduce_child-returns-then-wraps_at
-reduce_child-returns-then-wraps_at t c = child_wrapped c.wrap_spread-wrapped.ensures _ c.requires c.waits_at.ensures c.if-waits_at.false c.wraps_at.ensures c.if-wraps_at.true c.settle.ensures
+pub reduce_child-returns-then-wraps : goal.reduce_child-returns-then-wraps
+reduce_child-returns-then-wraps t c =
+    child_settled c.args.part (given c.args.settings) (tree c.args.node) c.waits.ensures c.if-waits.false
+    (child_wrapped c.args.part (given c.args.settings) (tree c.args.node) c.wraps.ensures c.if-wraps.true c.wrap_spread-wrapped.ensures)
+    (omega (arith, c.wrap_spread-wrapped.ensures.few)) c.settle.ensures
 
 pub reduce_child-settle-requires-2 : goal.reduce_child-settle-requires-2
-reduce_child-settle-requires-2 t c = reduced_given c.remove_unused_expression-end.ensures c.requires
+reduce_child-settle-requires-2 t c =
+    given_settle c.requires _ c.remove_unused_expression-end.ensures (reduced_few (given c.args.settings) (tree c.args.node) c.remove_unused_expression-end.ensures)
 
 pub reduce_child-returns : goal.reduce_child-returns
-reduce_child-returns t c = child_reduced c.remove_unused_expression-end.ensures _ c.requires c.waits_at.ensures c.if-waits_at.false c.wraps_at.ensures c.if-wraps_at.false c.settle-2.ensures
+reduce_child-returns t c =
+    child_settled c.args.part (given c.args.settings) (tree c.args.node) c.waits.ensures c.if-waits.false
+    (child_reduced c.args.part (given c.args.settings) (tree c.args.node) c.wraps.ensures c.if-wraps.false c.remove_unused_expression-end.ensures)
+    (reduced_few (given c.args.settings) (tree c.args.node) c.remove_unused_expression-end.ensures) c.settle-2.ensures
+
+-- ---- a list
 
 pub reduce_children-reduce_child-walked-requires : goal.reduce_children-reduce_child-walked-requires
-reduce_children-reduce_child-walked-requires t c = (omega (arith, c.decreases, c.subtree_at-subtree.ensures.0, child_within c.loop-p.invariant c.loop-p-test.true, c.loop-p.invariant.ends, c.loop-p.invariant.from), child_given c.loop-p.invariant c.loop-p-test.true _ c.subtree_at-subtree.ensures.0)
+reduce_children-reduce_child-walked-requires t c =
+    let k = c.loop-node.invariant in
+    let y = c.in-Some.ensures.steps in (
+      omega (arith, c.decreases, step_size c.loop-node.node-iterator c.next.new.self c.in-Some.node y, k.few, k.behind, waits_after k.waits),
+      next_given c.args.list (given c.args.settings) c.args.part c.loop-node.node-iterator k c.next.new.self c.in-Some.node y,
+    )
 
-pub reduce_children-loop-p-smaller : goal.reduce_children-loop-p-smaller
-reduce_children-loop-p-smaller t c = omega (arith, c.subtree_at-subtree.ensures.0, child_some c.loop-p.invariant c.loop-p-test.true, c.loop-p-test.true)
-
-pub reduce_children-loop-p-preserved : goal.reduce_children-loop-p-preserved
-reduce_children-loop-p-preserved t c = walk_on c.loop-p.invariant c.loop-p-test.true _ c.subtree_at-subtree.ensures.0 c.reduce_child-walked.ensures c.reduce_child-walked.auto.out
+pub reduce_children-loop-node-preserved : goal.reduce_children-loop-node-preserved
+reduce_children-loop-node-preserved t c =
+    walk_on c.args.list (given c.args.settings) c.args.part c.loop-node.node-iterator c.loop-node.invariant c.next.new.self c.in-Some.node c.in-Some.ensures.steps c.reduce_child-walked.ensures
 
 pub reduce_children-returns : goal.reduce_children-returns
-reduce_children-returns t c = walk_done c.loop-p.invariant c.loop-p-test.false
+reduce_children-returns t c =
+    walk_done c.args.list (given c.args.settings) c.args.part c.loop-node.node-iterator c.loop-node.invariant c.in-None.ensures.steps.0.0
 
-pub reduce_conditional-subtree_at-test_size-requires : goal.reduce_conditional-subtree_at-test_size-requires
-reduce_conditional-subtree_at-test_size-requires t c = omega (arith, arms_within c.requires.handles refl refl c.requires.given, c.requires.given.input.inside)
+-- ---- a node that is rewritten
 
-pub reduce_conditional-subtree_at-first_size-requires : goal.reduce_conditional-subtree_at-first_size-requires
-reduce_conditional-subtree_at-first_size-requires t c = omega (arith, arms_within c.requires.handles c.subtree_at-test_size.ensures.0 refl c.requires.given, c.requires.given.input.inside)
-
-pub reduce_conditional-overflow_sub-second_size-2 : goal.reduce_conditional-overflow_sub-second_size-2
-reduce_conditional-overflow_sub-second_size-2 t c = omega (arith, arms_within c.requires.handles c.subtree_at-test_size.ensures.0 c.subtree_at-first_size.ensures.0 c.requires.given)
-
-pub reduce_conditional-overflow_sub-second_size-3 : goal.reduce_conditional-overflow_sub-second_size-3
-reduce_conditional-overflow_sub-second_size-3 t c = omega (arith, arms_within c.requires.handles c.subtree_at-test_size.ensures.0 c.subtree_at-first_size.ensures.0 c.requires.given)
-
-pub reduce_conditional-remove_unused_expression-middle-requires : goal.reduce_conditional-remove_unused_expression-middle-requires
-reduce_conditional-remove_unused_expression-middle-requires t c = (omega (arith, c.decreases, some_depth c.requires.given.input, arms_within c.requires.handles c.subtree_at-test_size.ensures.0 c.subtree_at-first_size.ensures.0 c.requires.given), consequent_given c.requires.handles c.subtree_at-test_size.ensures.0 c.subtree_at-first_size.ensures.0 c.requires.given)
-
-pub reduce_conditional-remove_unused_expression-end-requires : goal.reduce_conditional-remove_unused_expression-end-requires
-reduce_conditional-remove_unused_expression-end-requires t c = (omega (arith, c.decreases, some_depth c.requires.given.input, arms_within c.requires.handles c.subtree_at-test_size.ensures.0 c.subtree_at-first_size.ensures.0 c.requires.given), alternate_given c.requires.handles c.subtree_at-test_size.ensures.0 c.subtree_at-first_size.ensures.0 _ c.remove_unused_expression-middle.ensures c.requires.given)
-
-pub reduce_conditional-remove_unused_expression-requires : goal.reduce_conditional-remove_unused_expression-requires
-reduce_conditional-remove_unused_expression-requires t c = (omega (arith, c.decreases, some_depth c.requires.given.input, arms_within c.requires.handles c.subtree_at-test_size.ensures.0 c.subtree_at-first_size.ensures.0 c.requires.given), test_given c.requires.handles c.subtree_at-test_size.ensures.0 c.subtree_at-first_size.ensures.0 _ c.remove_unused_expression-middle.ensures c.remove_unused_expression-end.ensures c.requires.given)
-
-pub reduce_conditional-returns-then-end-arms : goal.reduce_conditional-returns-then-end-arms
-reduce_conditional-returns-then-end-arms t c = both_gone c.requires.handles c.subtree_at-test_size.ensures.0 c.subtree_at-first_size.ensures.0 _ c.remove_unused_expression-middle.ensures c.remove_unused_expression-end.ensures c.if-end-arms.true c.remove_unused_expression.ensures
-
-pub reduce_conditional-copy_records-requires : goal.reduce_conditional-copy_records-requires
-reduce_conditional-copy_records-requires t c = (omega (arith, arms_within c.requires.handles c.subtree_at-test_size.ensures.0 c.subtree_at-first_size.ensures.0 c.requires.given, c.requires.given.input.inside), test_room c.requires.handles c.subtree_at-test_size.ensures.0 c.subtree_at-first_size.ensures.0 _ c.remove_unused_expression-middle.ensures c.remove_unused_expression-end.ensures c.requires.given, test_same c.requires.handles c.subtree_at-test_size.ensures.0 c.subtree_at-first_size.ensures.0 _ c.remove_unused_expression-middle.ensures c.remove_unused_expression-end.ensures c.requires.given)
-
-pub reduce_conditional-join_arms-requires : goal.reduce_conditional-join_arms-requires
-reduce_conditional-join_arms-requires t c = arms_given c.requires.handles c.subtree_at-test_size.ensures.0 c.subtree_at-first_size.ensures.0 _ c.remove_unused_expression-middle.ensures c.remove_unused_expression-end.ensures c.copy_records.ensures c.requires.given c.if-end-arms.false
-
-pub reduce_conditional-returns : goal.reduce_conditional-returns
-reduce_conditional-returns t c = conditional_done c.requires.handles c.subtree_at-test_size.ensures.0 c.subtree_at-first_size.ensures.0 _ c.remove_unused_expression-middle.ensures c.remove_unused_expression-end.ensures c.copy_records.ensures c.join_arms.ensures
-
-pub reduce_rewritten-reduce_children-left-requires : goal.reduce_rewritten-reduce_children-left-requires
-reduce_rewritten-reduce_children-left-requires t c = (omega (arith, c.decreases, c.requires.given.input.small, some_depth c.requires.given.input, some_size c.requires.given.input), inner_given c.requires.given)
+pub reduce_rewritten-reduce_children-walked-requires : goal.reduce_rewritten-reduce_children-walked-requires
+reduce_rewritten-reduce_children-walked-requires t c =
+    let w = c.children.result in
+    let z : w.end - w.at ≤ size (tree c.args.node) - 1 = omega (arith, sym (trees_size w), ap (λ l. records (forest l)) c.children.ensures.trees, ap records (forest_trees (tree c.args.node).kids)) in (
+      omega (arith, c.decreases, some_level c.requires.tree.listable, z, c.requires.tree.small),
+      inner_given c.requires.tree c.children.ensures.source z (rw c.children.ensures.trees (listable_kids c.requires.tree.listable)),
+    )
 
 pub reduce_rewritten-remove_unused_sequence_expr-requires : goal.reduce_rewritten-remove_unused_sequence_expr-requires
-reduce_rewritten-remove_unused_sequence_expr-requires t c = in_order_list c.reduce_children-left.ensures c.requires.given
-
-pub reduce_rewritten-reduce_children-left-requires-in-Array : goal.reduce_rewritten-reduce_children-left-requires-in-Array
-reduce_rewritten-reduce_children-left-requires-in-Array t c = (omega (arith, c.decreases, c.requires.given.input.small, some_depth c.requires.given.input, some_size c.requires.given.input), inner_given c.requires.given)
-
-pub reduce_rewritten-remove_unused_array_expr-requires : goal.reduce_rewritten-remove_unused_array_expr-requires
-reduce_rewritten-remove_unused_array_expr-requires t c = in_order_list c.reduce_children-left-in-Array.ensures c.requires.given
-
-pub reduce_rewritten-reduce_children-left-requires-in-Template : goal.reduce_rewritten-reduce_children-left-requires-in-Template
-reduce_rewritten-reduce_children-left-requires-in-Template t c = (omega (arith, c.decreases, c.requires.given.input.small, some_depth c.requires.given.input, some_size c.requires.given.input), inner_given c.requires.given)
-
-pub reduce_rewritten-close_template-requires : goal.reduce_rewritten-close_template-requires
-reduce_rewritten-close_template-requires t c = walked_given c.reduce_children-left-in-Template.ensures c.requires.given
-
-pub reduce_rewritten-reduce_children-left-requires-in-Object : goal.reduce_rewritten-reduce_children-left-requires-in-Object
-reduce_rewritten-reduce_children-left-requires-in-Object t c = (omega (arith, c.decreases, c.requires.given.input.small, some_depth c.requires.given.input, some_size c.requires.given.input), inner_given c.requires.given)
-
-pub reduce_rewritten-close_object-requires : goal.reduce_rewritten-close_object-requires
-reduce_rewritten-close_object-requires t c = walked_given c.reduce_children-left-in-Object.ensures c.requires.given
-
-pub reduce_rewritten-reduce_children-left-requires-in-Comparison : goal.reduce_rewritten-reduce_children-left-requires-in-Comparison
-reduce_rewritten-reduce_children-left-requires-in-Comparison t c = (omega (arith, c.decreases, c.requires.given.input.small, some_depth c.requires.given.input, some_size c.requires.given.input), inner_given c.requires.given)
-
-pub reduce_rewritten-join_kept-requires : goal.reduce_rewritten-join_kept-requires
-reduce_rewritten-join_kept-requires t c = in_order_list c.reduce_children-left-in-Comparison.ensures c.requires.given
+reduce_rewritten-remove_unused_sequence_expr-requires t c =
+    let a = (walked_as rewrites.Sequence c.part_under-part.ensures c.in-Sequence.is (rw c.children.ensures.trees at c.reduce_children-walked.ensures)) in
+    list_given c.requires.tree _ (in_order_wrote a) (omega (arith, kids_few c.args.node refl a))
 
 pub reduce_rewritten-returns-in-Sequence : goal.reduce_rewritten-returns-in-Sequence
-reduce_rewritten-returns-in-Sequence t c = sequence_done c.reduce_children-left.ensures (as_made Sequence c.in-Sequence.is c.requires.handles) c.remove_unused_sequence_expr.ensures
+reduce_rewritten-returns-in-Sequence t c =
+    let a = (walked_as rewrites.Sequence c.part_under-part.ensures c.in-Sequence.is (rw c.children.ensures.trees at c.reduce_children-walked.ensures)) in
+    outcome_done (outcomes.Rewritten rewrites.Sequence) (as_made rewrites.Sequence c.in-Sequence.is c.requires.handles) (becomes_left c.remove_unused_sequence_expr.ensures _ (in_order_wrote a))
+
+pub reduce_rewritten-remove_unused_array_expr-requires : goal.reduce_rewritten-remove_unused_array_expr-requires
+reduce_rewritten-remove_unused_array_expr-requires t c =
+    let a = (walked_as rewrites.Array c.part_under-part.ensures c.in-Array.is (rw c.children.ensures.trees at c.reduce_children-walked.ensures)) in
+    list_given c.requires.tree _ (in_order_wrote a) (omega (arith, kids_few c.args.node refl a))
 
 pub reduce_rewritten-returns-in-Array : goal.reduce_rewritten-returns-in-Array
-reduce_rewritten-returns-in-Array t c = array_done c.reduce_children-left-in-Array.ensures (as_made Array c.in-Array.is c.requires.handles) c.remove_unused_array_expr.ensures
+reduce_rewritten-returns-in-Array t c =
+    let a = (walked_as rewrites.Array c.part_under-part.ensures c.in-Array.is (rw c.children.ensures.trees at c.reduce_children-walked.ensures)) in
+    outcome_done (outcomes.Rewritten rewrites.Array) (as_made rewrites.Array c.in-Array.is c.requires.handles) (becomes_left c.remove_unused_array_expr.ensures _ (in_order_wrote a))
 
-pub reduce_rewritten-returns-in-Template : goal.reduce_rewritten-returns-in-Template
-reduce_rewritten-returns-in-Template t c = template_done c.reduce_children-left-in-Template.ensures (as_made rewrites.Template c.in-Template.is c.requires.handles) c.close_template.ensures
-
-pub reduce_rewritten-returns-in-Object : goal.reduce_rewritten-returns-in-Object
-reduce_rewritten-returns-in-Object t c = object_done c.reduce_children-left-in-Object.ensures (as_made rewrites.Object c.in-Object.is c.requires.handles) c.close_object.ensures
+pub reduce_rewritten-join_kept-requires : goal.reduce_rewritten-join_kept-requires
+reduce_rewritten-join_kept-requires t c =
+    let a = (walked_as rewrites.Comparison c.part_under-part.ensures c.in-Comparison.is (rw c.children.ensures.trees at c.reduce_children-walked.ensures)) in
+    list_given c.requires.tree _ (in_order_wrote a) (omega (arith, kids_few c.args.node refl a))
 
 pub reduce_rewritten-returns-in-Comparison : goal.reduce_rewritten-returns-in-Comparison
-reduce_rewritten-returns-in-Comparison t c = comparison_done c.reduce_children-left-in-Comparison.ensures (as_made Comparison c.in-Comparison.is c.requires.handles) c.join_kept.ensures
+reduce_rewritten-returns-in-Comparison t c =
+    let a = (walked_as rewrites.Comparison c.part_under-part.ensures c.in-Comparison.is (rw c.children.ensures.trees at c.reduce_children-walked.ensures)) in
+    outcome_done (outcomes.Rewritten rewrites.Comparison) (as_made rewrites.Comparison c.in-Comparison.is c.requires.handles) (becomes_left c.join_kept.ensures _ (in_order_wrote a))
 
-pub remove_unused_expression-reduce_children-left-requires : goal.remove_unused_expression-reduce_children-left-requires
-remove_unused_expression-reduce_children-left-requires t c = (omega (arith, c.decreases, c.requires.input.small, some_depth c.requires.input, some_size c.requires.input), outer_given c.requires)
+pub reduce_rewritten-close_template-requires : goal.reduce_rewritten-close_template-requires
+reduce_rewritten-close_template-requires t c = walked_given c.args.node _ c.requires.tree (walked_as rewrites.Template c.part_under-part.ensures c.in-Template.is (rw c.children.ensures.trees at c.reduce_children-walked.ensures))
 
-pub remove_unused_expression-first_size-callee-requires : goal.remove_unused_expression-first_size-callee-requires
-remove_unused_expression-first_size-callee-requires t c = callee_first c.in-Arguments.ensures c.requires
+pub reduce_rewritten-returns-in-Template : goal.reduce_rewritten-returns-in-Template
+reduce_rewritten-returns-in-Template t c = template_done c.args.node (as_made rewrites.Template c.in-Template.is c.requires.handles) (walked_as rewrites.Template c.part_under-part.ensures c.in-Template.is (rw c.children.ensures.trees at c.reduce_children-walked.ensures)) c.close_template.ensures
 
-pub remove_unused_expression-overflow_add-from : goal.remove_unused_expression-overflow_add-from
-remove_unused_expression-overflow_add-from t c = omega (arith, callee_within c.in-Arguments.ensures _ c.first_size-callee.ensures c.requires, c.requires.input.inside, some_size c.requires.input)
+pub reduce_rewritten-close_object-requires : goal.reduce_rewritten-close_object-requires
+reduce_rewritten-close_object-requires t c = walked_given c.args.node _ c.requires.tree (walked_as rewrites.Object c.part_under-part.ensures c.in-Object.is (rw c.children.ensures.trees at c.reduce_children-walked.ensures))
 
-pub remove_unused_expression-overflow_sub-size : goal.remove_unused_expression-overflow_sub-size
-remove_unused_expression-overflow_sub-size t c = omega (arith, callee_within c.in-Arguments.ensures _ c.first_size-callee.ensures c.requires)
+pub reduce_rewritten-returns-in-Object : goal.reduce_rewritten-returns-in-Object
+reduce_rewritten-returns-in-Object t c = object_done c.args.node (as_made rewrites.Object c.in-Object.is c.requires.handles) (walked_as rewrites.Object c.part_under-part.ensures c.in-Object.is (rw c.children.ensures.trees at c.reduce_children-walked.ensures)) c.close_object.ensures
 
-pub remove_unused_expression-reduce_children-left-requires-in-Arguments : goal.remove_unused_expression-reduce_children-left-requires-in-Arguments
-remove_unused_expression-reduce_children-left-requires-in-Arguments t c = (omega (arith, c.decreases, c.requires.input.small, some_depth c.requires.input, some_size c.requires.input), arguments_given c.in-Arguments.ensures _ c.first_size-callee.ensures c.requires)
+-- ---- a conditional
 
-pub remove_unused_expression-none_one_several-requires : goal.remove_unused_expression-none_one_several-requires
-remove_unused_expression-none_one_several-requires t c = arguments_list c.in-Arguments.ensures _ c.first_size-callee.ensures c.reduce_children-left-in-Arguments.ensures c.requires
+pub reduce_conditional-three_children-requires : goal.reduce_conditional-three_children-requires
+reduce_conditional-three_children-requires t c = c.requires.handles.has.1
 
-pub remove_unused_expression-remove_unused_class-requires : goal.remove_unused_expression-remove_unused_class-requires
-remove_unused_expression-remove_unused_class-requires t c = class_given c.in-Class.ensures c.requires
+pub reduce_conditional-remove_unused_expression-middle-requires : goal.reduce_conditional-remove_unused_expression-middle-requires
+reduce_conditional-remove_unused_expression-middle-requires t c =
+    let a : Arms c.args.node c.three_children.result.0 c.three_children.result.1 c.three_children.result.2 = record { kids = c.three_children.ensures.kids; test_source = c.three_children.ensures.source.0; first_source = c.three_children.ensures.source.1; second_source = c.three_children.ensures.source.2 } in
+    (omega (arith, c.decreases, some_level c.requires.given.listable, arms_size a, c.requires.given.small), rw c.size.ensures.records (first_given a c.requires))
+
+pub reduce_conditional-remove_unused_expression-end-requires : goal.reduce_conditional-remove_unused_expression-end-requires
+reduce_conditional-remove_unused_expression-end-requires t c =
+    let a : Arms c.args.node c.three_children.result.0 c.three_children.result.1 c.three_children.result.2 = record { kids = c.three_children.ensures.kids; test_source = c.three_children.ensures.source.0; first_source = c.three_children.ensures.source.1; second_source = c.three_children.ensures.source.2 } in (
+      omega (arith, c.decreases, some_level c.requires.given.listable, arms_size a, c.requires.given.small),
+      second_given a c.requires (rw c.size.ensures.records at c.remove_unused_expression-middle.ensures),
+    )
+
+pub reduce_conditional-remove_unused_expression-requires : goal.reduce_conditional-remove_unused_expression-requires
+reduce_conditional-remove_unused_expression-requires t c =
+    let a : Arms c.args.node c.three_children.result.0 c.three_children.result.1 c.three_children.result.2 = record { kids = c.three_children.ensures.kids; test_source = c.three_children.ensures.source.0; first_source = c.three_children.ensures.source.1; second_source = c.three_children.ensures.source.2 } in (
+      omega (arith, c.decreases, some_level c.requires.given.listable, arms_size a, c.requires.given.small),
+      test_given a c.requires (rw c.size.ensures.records at c.remove_unused_expression-middle.ensures) c.remove_unused_expression-end.ensures,
+    )
+
+pub reduce_conditional-returns-then-end-arms : goal.reduce_conditional-returns-then-end-arms
+reduce_conditional-returns-then-end-arms t c =
+    let a : Arms c.args.node c.three_children.result.0 c.three_children.result.1 c.three_children.result.2 = record { kids = c.three_children.ensures.kids; test_source = c.three_children.ensures.source.0; first_source = c.three_children.ensures.source.1; second_source = c.three_children.ensures.source.2 } in
+    both_gone a c.requires (rw c.size.ensures.records at c.remove_unused_expression-middle.ensures) c.remove_unused_expression-end.ensures
+    (rw c.size.ensures.records at c.if-end-arms.true) c.remove_unused_expression.ensures
+
+pub reduce_conditional-copy_records-requires : goal.reduce_conditional-copy_records-requires
+reduce_conditional-copy_records-requires t c =
+    let a : Arms c.args.node c.three_children.result.0 c.three_children.result.1 c.three_children.result.2 = record { kids = c.three_children.ensures.kids; test_source = c.three_children.ensures.source.0; first_source = c.three_children.ensures.source.1; second_source = c.three_children.ensures.source.2 } in
+    let g = test_room a c.requires (rw c.size.ensures.records at c.remove_unused_expression-middle.ensures) c.remove_unused_expression-end.ensures in
+    (omega (arith, c.size-2.ensures.records, c.three_children.result.0.stands.1), omega (arith, c.size-2.ensures.records, g.fits), g.same)
+
+pub reduce_conditional-join_arms-requires : goal.reduce_conditional-join_arms-requires
+reduce_conditional-join_arms-requires t c =
+    let a : Arms c.args.node c.three_children.result.0 c.three_children.result.1 c.three_children.result.2 = record { kids = c.three_children.ensures.kids; test_source = c.three_children.ensures.source.0; first_source = c.three_children.ensures.source.1; second_source = c.three_children.ensures.source.2 } in
+    let n = c.three_children.result.0 in
+    rw c.size.ensures.records
+    (arms_given a c.requires (rw c.size.ensures.records at c.remove_unused_expression-middle.ensures) c.remove_unused_expression-end.ensures
+    (copied_trees (one (tree n)) n.stands.0 (omega (arith, c.size-2.ensures.records)) c.copy_records.ensures) (rw c.size-2.ensures.records at c.copy_records.ensures.above)
+    (λ e. c.if-end-arms.false (omega (arith, e, c.size.ensures.records))))
+
+pub reduce_conditional-returns : goal.reduce_conditional-returns
+reduce_conditional-returns t c =
+    let a : Arms c.args.node c.three_children.result.0 c.three_children.result.1 c.three_children.result.2 = record { kids = c.three_children.ensures.kids; test_source = c.three_children.ensures.source.0; first_source = c.three_children.ensures.source.1; second_source = c.three_children.ensures.source.2 } in
+    let n = c.three_children.result.0 in
+    conditional_done a c.requires (rw c.size.ensures.records at c.remove_unused_expression-middle.ensures) c.remove_unused_expression-end.ensures
+    (copied_trees (one (tree n)) n.stands.0 (omega (arith, c.size-2.ensures.records)) c.copy_records.ensures) (rw c.size-2.ensures.records at c.copy_records.ensures.above)
+    (rw c.size.ensures.records at c.join_arms.ensures)
+
+-- ---- an expression, by its outcome
+
+pub remove_unused_expression-reduce_children-requires : goal.remove_unused_expression-reduce_children-requires
+remove_unused_expression-reduce_children-requires t c =
+    let w = c.children.result in
+    let z : w.end - w.at ≤ size (tree c.args.node) - 1 = omega (arith, sym (trees_size w), ap (λ l. records (forest l)) c.children.ensures.trees, ap records (forest_trees (tree c.args.node).kids)) in (
+      omega (arith, c.decreases, some_level c.requires.listable, z, c.requires.small),
+      outer_given c.requires c.children.ensures.source z (rw c.children.ensures.trees (listable_kids c.requires.listable)),
+    )
+
+pub remove_unused_expression-reduce_rewritten-requires : goal.remove_unused_expression-reduce_rewritten-requires
+remove_unused_expression-reduce_rewritten-requires t c =
+    (omega (arith, c.decreases), (c.requires, as_outcome (outcomes.Rewritten c.in-Rewritten.made) c.requires.listable c.handle-outcome.ensures c.in-Rewritten.is))
+
+pub remove_unused_expression-reduce_conditional-requires : goal.remove_unused_expression-reduce_conditional-requires
+remove_unused_expression-reduce_conditional-requires t c =
+    (omega (arith, c.decreases), record { given = c.requires; handles = as_outcome outcomes.Conditional c.requires.listable c.handle-outcome.ensures c.in-Conditional.is })
 
 pub remove_unused_expression-returns-in-Removable : goal.remove_unused_expression-returns-in-Removable
-remove_unused_expression-returns-in-Removable t c = removable_done c.in-Removable.ensures
+remove_unused_expression-returns-in-Removable t c = removable_done (as_outcome outcomes.Removable c.requires.listable c.handle-outcome.ensures c.in-Removable.is)
 
 pub remove_unused_expression-returns-in-Unchanged : goal.remove_unused_expression-returns-in-Unchanged
-remove_unused_expression-returns-in-Unchanged t c = unchanged_done c.in-Unchanged.ensures c.copy_tree.ensures
+remove_unused_expression-returns-in-Unchanged t c =
+    outcome_done outcomes.Unchanged (as_outcome outcomes.Unchanged c.requires.listable c.handle-outcome.ensures c.in-Unchanged.is) c.copy_tree.ensures
 
 pub remove_unused_expression-returns-in-Unwrapped : goal.remove_unused_expression-returns-in-Unwrapped
-remove_unused_expression-returns-in-Unwrapped t c = unwrapped_done c.in-Unwrapped.ensures c.reduce_children-left.ensures
-
-pub remove_unused_expression-returns-in-Arguments : goal.remove_unused_expression-returns-in-Arguments
-remove_unused_expression-returns-in-Arguments t c = arguments_done c.in-Arguments.ensures _ c.first_size-callee.ensures c.reduce_children-left-in-Arguments.ensures c.none_one_several.ensures
+remove_unused_expression-returns-in-Unwrapped t c =
+    outcome_done outcomes.Unwrapped (as_outcome outcomes.Unwrapped c.requires.listable c.handle-outcome.ensures c.in-Unwrapped.is)
+    (in_order_wrote (rw c.children.ensures.trees at c.reduce_children.ensures))
 
 pub remove_unused_expression-returns-in-Addition : goal.remove_unused_expression-returns-in-Addition
-remove_unused_expression-returns-in-Addition t c = addition_done c.in-Addition.ensures c.remove_unused_addition.ensures
+remove_unused_expression-returns-in-Addition t c =
+    outcome_done outcomes.Addition (as_outcome outcomes.Addition c.requires.listable c.handle-outcome.ensures c.in-Addition.is) c.remove_unused_addition.ensures
 
 pub remove_unused_expression-returns-in-Class : goal.remove_unused_expression-returns-in-Class
-remove_unused_expression-returns-in-Class t c = class_done c.in-Class.ensures c.remove_unused_class.ensures
+remove_unused_expression-returns-in-Class t c =
+    outcome_done outcomes.Class (as_outcome outcomes.Class c.requires.listable c.handle-outcome.ensures c.in-Class.is) c.remove_unused_class.ensures
+
+-- A call's arguments, behind the callee.
+pub remove_unused_expression-reduce_children-walked-requires : goal.remove_unused_expression-reduce_children-walked-requires
+remove_unused_expression-reduce_children-walked-requires t c =
+    let w = c.next.new.self in
+    let e = others c.children-arguments.result w c.next.result c.next.ensures.steps.0 ∙ ap (drop 1) c.children-arguments.ensures.trees in
+    let z = others_few c.args.node w e in (
+      omega (arith, c.decreases, some_level c.requires.listable, z, c.requires.small),
+      inner_given c.requires (c.next.ensures.steps.1 ∙ c.children-arguments.ensures.source) z (rw e (all_drop _ 1 _ (listable_kids c.requires.listable))),
+    )
+
+pub remove_unused_expression-none_one_several-requires : goal.remove_unused_expression-none_one_several-requires
+remove_unused_expression-none_one_several-requires t c =
+    let w = c.next.new.self in
+    let e = others c.children-arguments.result w c.next.result c.next.ensures.steps.0 ∙ ap (drop 1) c.children-arguments.ensures.trees in
+    let a = c.reduce_children-walked.ensures in
+    list_given c.requires _ (arguments_wrote a) (omega (arith, a.few, trees_size w, others_few c.args.node w e))
+
+pub remove_unused_expression-returns-in-Arguments : goal.remove_unused_expression-returns-in-Arguments
+remove_unused_expression-returns-in-Arguments t c =
+    let w = c.next.new.self in
+    let e = others c.children-arguments.result w c.next.result c.next.ensures.steps.0 ∙ ap (drop 1) c.children-arguments.ensures.trees in
+    outcome_done outcomes.Arguments (as_outcome outcomes.Arguments c.requires.listable c.handle-outcome.ensures c.in-Arguments.is)
+    (becomes_left c.none_one_several.ensures _ (arguments_wrote (rw e at c.reduce_children-walked.ensures)))

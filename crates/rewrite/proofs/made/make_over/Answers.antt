@@ -1,9 +1,9 @@
 use Rattle.std.proofs.Common.{refl, arith}
-use Rattle.rewrite.specs.Made.{made_after, made_few, made_over}
+use Rattle.rewrite.specs.Made.{made_few, made_over}
 use Rattle.rewrite.proofs.made.make_over.Goals as goal
 
-pub make_at-requires : goal.make_at-requires
-make_at-requires c = (omega (arith, made_after c.requires), made_few c.requires c.count_trees-n.ensures, omega arith)
+pub overflow_cast-counts : goal.overflow_cast-counts
+overflow_cast-counts c = omega (arith, made_few c.requires c.count_trees-n.ensures)
 
 pub returns : goal.returns
 returns c = made_over c.count_trees-n.ensures refl c.make_at.ensures

@@ -1,14 +1,16 @@
-use Rattle.std.proofs.Common.{refl, ◌∙◌}
+use Rattle.std.proofs.Common.{◌+◌, ap, ◌∙◌}
 use Rattle.tree.specs.Room.{place_said}
-use Rattle.readings.specs.Own.{tells_flagged}
+use Rattle.readings.specs.At.{tree_at}
+use Rattle.readings.specs.View.{tree}
 use Rattle.rewrite.specs.Waiting.{wrapped_gone, wrapped_kept}
 use Rattle.rewrite.proofs.waiting.wrap_spread.Goals as goal
 
-pub returns-then-flagged_at : goal.returns-then-flagged_at
-returns-then-flagged_at c =
-    wrapped_kept (tells_flagged c.flagged_at.ensures) c.if-flagged_at.true c.copy_tree-next.ensures
-    (place_said c.args.src.now c.copy_tree-next.new.out c.args.at (c.copy_tree-next.ensures.frame.same ∙ c.requires.3) c.place_at.ensures)
-    refl c.make_at.ensures
+pub returns-then-is_flagged : goal.returns-then-is_flagged
+unfolding tree_at
+returns-then-is_flagged c =
+    wrapped_kept (tree c.args.node) c.is_flagged.ensures c.if-is_flagged.true c.copy_tree-next.ensures
+    (place_said c.args.node.record.src.now c.copy_tree-next.new.out c.args.node.record.at (c.copy_tree-next.ensures.frame.same ∙ c.requires.0.same) c.place.ensures)
+    (ap (λ n. n + 1) c.size.ensures.records) c.make_at.ensures
 
 pub returns : goal.returns
-returns c = wrapped_gone (tells_flagged c.flagged_at.ensures) c.if-flagged_at.false
+returns c = wrapped_gone (tree c.args.node) c.is_flagged.ensures c.if-is_flagged.false

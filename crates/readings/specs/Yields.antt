@@ -1,0 +1,34 @@
+-- A walk over trees: the next one, of the same bytes.
+use Rattle.std.specs.Prelude.{◌≡◌, refl, List, [], ◌∷◌, Option, None, Some, IfSome, IsSome, ℕ, suc, length}
+use Rattle.std.specs.Iterator.{YieldsFirstBy}
+use Rattle.std.proofs.Common.{ap, arith, subst}
+use Rattle.std.proofs.lemmas.Iterator.{YieldsList}
+use Rattle.std.proofs.lemmas.Iterator.Consumers.{YieldsList-from_shown}
+use Rattle.tree.specs.Tree.{Forest, nil, node, Tree, trees, count}
+use Rattle.readings.specs.View.{left, tree}
+use Rattle.readings.specs.declared.node.Node.{Node}
+use Rattle.readings.specs.declared.node.Trees.{Trees}
+
+abbrev pub YieldsTree : Trees → Option Node → Trees → Type 0
+YieldsTree s r t = YieldsFirstBy tree left s r t × (t.src.now ≡ s.src.now) × IfSome r (λ n. n.record.src.now ≡ s.src.now)
+
+-- Such a walk gives the trees that are left, in order.
+pub yields : {w : Trees} (ts : List Tree) → left w ≡ ts → YieldsList YieldsTree tree w ts
+yields {w} ts e = subst (λ (l : List Tree). YieldsList YieldsTree tree w l) e (YieldsList-from_shown YieldsTree tree left (λ s t y. ap length y.0.0) (λ s x t y. y.0) w)
+
+-- Where trees are left, there is a next one.
+pub some_yielded : (s t : Trees) (r : Option Node) {n : ℕ} → YieldsTree s r t → length (left s) ≡ suc n → IsSome r
+some_yielded s t None y e = absurd (omega (arith, e, ap length y.0.0))
+some_yielded s t (Some x) y e = refl
+
+pub yielded : (s t : Trees) (r : Option Node) (x : Node) → r ≡ Some x → YieldsTree s r t → (left s ≡ tree x ∷ left t) × (t.src.now ≡ s.src.now) × (x.record.src.now ≡ s.src.now)
+yielded s t r x e y = subst (λ (o : Option Node). YieldsTree s o t) e y
+
+-- A node's children are as many as their list.
+pub count_trees : (f : Forest) → length (trees f) ≡ count f
+count_trees nil = refl
+count_trees (node h cs rest) = ap suc (count_trees rest)
+
+pub none_behind : (l : List Tree) → length l ≡ 0 → l ≡ []
+none_behind [] e = refl
+none_behind (x ∷ xs) e = absurd (omega arith)
