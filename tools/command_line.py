@@ -220,7 +220,7 @@ def at_once():
 # ---- First uses
 
 NAME = "derived_rows"  # the program that rests on the fewest crates
-CRATES = 4  # it and those that it rests on
+CRATES = 5  # it and those that it rests on
 LOWEST = "stated"
 BUILT = 600  # seconds that a build may take
 
