@@ -1,6 +1,6 @@
 -- The fold of a chain of additions, and what is left of an addition.
 use Rattle.std.specs.Prelude.{◌≡◌, refl, Bool, true, false, cond, not, ◌||◌, List, [], ◌∷◌, map, ℕ, ◌+◌, ◌<◌, ◌≤◌, None, Some}
-use Rattle.std.proofs.Common.{sym, ap, ◌∙◌, arith, eq-eqb, ne_eqb}
+use Rattle.std.proofs.Common.{sym, ap, ◌∙◌, arith}
 use Rattle.std.proofs.lemmas.Option.{none-some}
 use Rattle.std.proofs.Math.Dec.{eqb}
 use Rattle.tree.specs.Tree.{Head, Tree, trees, size, recur_is, of_two, paired}
@@ -122,14 +122,14 @@ module _ {u : Node} {old : List ℕ} {pos : ℕ} (g : GivenTree u old pos) (smal
         small = omega (arith, n, z);
       }
 
--- What is left of an addition, by the kind k that the fold's record says.
-module _ {t : Tree} {old new : List ℕ} {pos next : ℕ} {string : Bool} (f : Folds t old new pos next string) {k : ℕ} (e : k ≡ (head_at new pos).kind) where
-  literal_is : is_literal (fold_string_addition_chain t) ≡ eqb k kind.literal
+-- What is left of an addition, by the kind that the fold's record says.
+module _ {t : Tree} {old new : List ℕ} {pos next : ℕ} {string : Bool} (f : Folds t old new pos next string) where
+  literal_is : is_literal (fold_string_addition_chain t) ≡ eqb (head_at new pos).kind kind.literal
   unfolding is_kind
-  literal_is = sym (ap (λ (x : ℕ). eqb x kind.literal) (e ∙ ap (λ (h : Head). h.kind) f.wrote.spans.stands.0))
+  literal_is = sym (ap (λ (h : Head). eqb h.kind kind.literal) f.wrote.spans.stands.0)
 
-  pub literal_removed : k ≡ kind.literal → RemovesAddition t old new pos pos
-  literal_removed x = wrote_as (wrote_none f.wrote.frame) (rw (literal_is ∙ eq-eqb k kind.literal x))
+  pub literal_removed : eqb (head_at new pos).kind kind.literal ≡ true → RemovesAddition t old new pos pos
+  literal_removed e = wrote_as (wrote_none f.wrote.frame) (rw (literal_is ∙ e))
 
-  pub other_stays : (k ≡ kind.literal → ⊥) → RemovesAddition t old new pos next
-  other_stays x = wrote_as f.wrote (rw (literal_is ∙ ne_eqb k kind.literal x))
+  pub other_stays : eqb (head_at new pos).kind kind.literal ≡ false → RemovesAddition t old new pos next
+  other_stays e = wrote_as f.wrote (rw (literal_is ∙ e))

@@ -35,7 +35,7 @@ fn empty_unless_flagged(out: &mut [u8], at: usize, next: usize) -> usize
         return next;
     }
     let empty = MadeHead {
-        kind: Kind::Literal as u8,
+        kind: Kind::Literal,
         sub: 0,
         facts: 18,
         place: side.place(),
@@ -130,7 +130,7 @@ pub fn remove_unused_addition(node: Node, out: &mut [u8], pos: usize) -> usize
 {
     let folded = fold_string_addition_chain(node, out, pos);
     let kept = Record { src: out, at: pos };
-    if kept.kind() == Kind::Literal as u8 {
+    if kept.is_kind(Kind::Literal) {
         return pos;
     }
     folded.next

@@ -1,8 +1,8 @@
 -- One entry of the list.
-use Rattle.std.specs.Prelude.{◌≡◌, refl, Bool, true, false, List, [], ◌∷◌, ◌⊎◌, ℕ, ◌+◌, ◌*◌, get_or, set}
-use Rattle.std.proofs.Common.{sym, ap, ◌∙◌, inl, inr, add-zero, arith, get_or-set_other, set-set}
+use Rattle.std.specs.Prelude.{◌≡◌, Bool, true, false, List, [], ◌∷◌, ◌⊎◌, ℕ, ◌+◌, get_or, set}
+use Rattle.std.proofs.Common.{sym, ap, ◌∙◌, inl, inr, arith, get_or-set_other, set-set}
 use Rattle.std.proofs.lemmas.List.{set-get_or}
-use Rattle.tree.specs.Tree.{Place, Tree}
+use Rattle.tree.specs.Tree.{Tree}
 use Rattle.rules.specs.Lists.{keep_if}
 use Rattle.rules.specs.Effects.{itself, coercion_number}
 use Rattle.stated.specs.Wrote.{Wrote}
@@ -12,16 +12,6 @@ use Rattle.effects.specs.declared.entry.Effect.TheVariants.{Itself, Coercion}
 abbrev pub effect_of : Effect → Tree → ℕ
 effect_of Itself t = itself t
 effect_of Coercion t = coercion_number t
-
--- "An effect is place × 512 + kind × 2 + 1 if a coercion"
-module _ (t : Tree) {place : Place} {k : ℕ} (ep : place ≡ t.head.place) (ek : k ≡ t.head.kind) where
-  pub number_itself : place.start * 512 + k * 2 + 0 ≡ itself t
-  unfolding itself
-  number_itself = rw (ep, ek) (add-zero (t.head.place.start * 512 + t.head.kind * 2))
-
-  pub number_coercion : place.start * 512 + k * 2 + 1 ≡ coercion_number t
-  unfolding itself coercion_number
-  number_coercion = rw (ep, ek) refl
 
 -- The entry where the list goes on gets back what it held: the next one, which has not changed, or the one that was written.
 module _ (old : List ℕ) (pos e : ℕ) where

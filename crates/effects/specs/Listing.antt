@@ -1,20 +1,29 @@
 -- What the functions of the listing are given and what they list.
-use Rattle.std.specs.Prelude.{◌≡◌, refl, Bool, true, cond, ◌&&◌, List, [], ◌∷◌, ◌++◌, ℕ, ◌+◌, ◌-◌, ◌<◌, ◌≤◌, length, Option, None, Some, unwrap_or}
-use Rattle.std.proofs.Common.{sym, ap, arith, length-append}
-use Rattle.std.proofs.lemmas.Option.{none-some}
-use Rattle.tree.specs.Tree.{Forest, nil, node, Tree, All, one, trees, count, levels}
+use Rattle.std.specs.Prelude.{◌≡◌, refl, Bool, true, cond, ◌&&◌, List, [], ◌++◌, ℕ, ◌+◌, ◌-◌, ◌<◌, ◌≤◌, length}
+use Rattle.std.proofs.Common.{ap, subst, ◌∙◌, arith, length-append}
+use Rattle.std.proofs.Math.Seq.{length-sets}
+use Rattle.tree.specs.Tree.{Forest, nil, node, Tree, All, one, trees, levels}
 use Rattle.tree.specs.Tree as tree
 use Rattle.tree.specs.Below.{and_both, and_left, and_right}
 use Rattle.tree.specs.Children.{node_ok, formed}
-use Rattle.tree.specs.Stands.{two_sides}
-use Rattle.tree.specs.Symbol.{is_addition, Sides}
 use Rattle.rules.specs.Settings.{Settings}
 use Rattle.rules.specs.Conditional.{test_of, consequent_of, alternate_of}
 use Rattle.rules.specs.Effects.{evaluate, effects, effects_of, coercion}
-use Rattle.readings.specs.Sides.{first_two}
-use Rattle.stated.specs.Wrote.{Wrote}
+use Rattle.readings.specs.Given.{given}
+use Rattle.stated.specs.Wrote.{Wrote, wrote_none, wrote_both}
+use Rattle.effects.specs.declared.listing.Listing.{Listing}
 use Rattle.effects.specs.declared.listing.Part.{Part}
 use Rattle.effects.specs.declared.listing.Part.TheVariants.{Coerced, Key, Static}
+
+-- There is room for l, and for one entry more.
+abbrev pub HasRoom : Listing → List ℕ → Type 0
+HasRoom s l = s.count + length l < length s.entries.now
+
+-- l is written behind what was written, in the same entries; the settings stay.
+pub record Listed (old new : Listing) (l : List ℕ) : Type 0 where
+  pub wrote : Wrote old.entries.now new.entries.now old.count new.count l
+  pub same_entries : new.entries.ghost_name ≡ old.entries.ghost_name
+  pub settings : given new.settings ≡ given old.settings
 
 -- A well-formed tree of `depth` levels at most.
 pub record Listable (depth : ℕ) (t : Tree) : Type 0 where
@@ -32,7 +41,7 @@ part_of Static s t = (evaluate s t).static
 abbrev pub tested : Bool → Settings → List Tree → List ℕ
 tested when s ts = effects_of s (test_of ts) ++ effects_of s (cond when (consequent_of ts) (alternate_of ts))
 
--- What is so of a tree's children, of the trees of a list, and of an addition's sides.
+-- What is so of a tree's children, and of the trees of a list.
 all_listable : (depth : ℕ) (f : Forest) → formed f ≡ true → levels f ≤ depth → All (Listable depth) (trees f)
 unfolding formed
 all_listable depth nil w l = tt
@@ -60,32 +69,22 @@ module _ {depth : ℕ} {t : Tree} (l : Listable depth t) where
   pub listable_under : All (Listable depth) (trees t.kids)
   listable_under = all_listable depth t.kids under (omega (arith, l.low))
 
-  -- An addition has two children, its sides.
-  module _ (a : is_addition t ≡ true) where
-    two : count t.kids ≡ 2
-    unfolding is_addition
-    two = two_sides t.head t.kids a node_ok_of
-
-    pub has_two : None ≡ first_two (trees t.kids) → ⊥
-    has_two = go t.kids two
-      where
-        go : (f : Forest) → count f ≡ 2 → None ≡ first_two (trees f) → ⊥
-        go nil c e = omega (arith, c)
-        go (node h cs nil) c e = omega (arith, c)
-        go (node h cs (node g xs rest)) c e = none-some _ e
-
-    pub sides_are : (l r : Tree) → Some (l, r) ≡ first_two (trees t.kids) → Sides t l r
-    sides_are l r e = record { addition = a; kids = go t.kids two e }
-      where
-        go : (f : Forest) → count f ≡ 2 → Some (l, r) ≡ first_two (trees f) → trees f ≡ l ∷ r ∷ []
-        go nil c e = absurd (omega (arith, c))
-        go (node h cs nil) c e = absurd (omega (arith, c))
-        go (node h cs (node g xs nil)) c e = sym (ap (λ (o : Option (Tree × Tree)). (unwrap_or o (l, r)).0 ∷ (unwrap_or o (l, r)).1 ∷ []) e)
-        go (node h cs (node g xs (node k ys rest))) c e = absurd (omega (arith, c))
-
 -- What is listed in parts is written where each ends, and there is room for each.
-pub room_first : (a b : List ℕ) (pos room : ℕ) → pos + length (a ++ b) < room → pos + length a < room
-room_first a b pos room f = omega (arith, f, length-append a b)
+pub listed_none : (s : Listing) → Listed s s []
+listed_none s = record { wrote = wrote_none _ _; same_entries = refl; settings = refl }
 
-pub room_after : {old mid : List ℕ} {pos next : ℕ} {a : List ℕ} (b : List ℕ) (room : ℕ) → Wrote old mid pos next a → pos + length (a ++ b) < room → next + length b < room
-room_after {a = a} b room w f = omega (arith, f, w.ends, length-append a b)
+pub listed_both : {s t u : Listing} {a b : List ℕ} → Listed s t a → Listed t u b → Listed s u (a ++ b)
+listed_both x y = record { wrote = wrote_both x.wrote y.wrote; same_entries = y.same_entries ∙ x.same_entries; settings = y.settings ∙ x.settings }
+
+pub listed_as : {s t : Listing} {a b : List ℕ} → Listed s t a → a ≡ b → Listed s t b
+listed_as {s} {t} x e = subst (λ (l : List ℕ). Listed s t l) e x
+
+pub room_first : (a b : List ℕ) (count room : ℕ) → count + length (a ++ b) < room → count + length a < room
+room_first a b count room f = omega (arith, f, length-append a b)
+
+pub room_after : {s t : Listing} {a : List ℕ} (b : List ℕ) → Listed s t a → HasRoom s (a ++ b) → HasRoom t b
+room_after {s} {t} {a} b x f =
+    omega (arith, f, x.wrote.ends, length-append a b, ap length x.wrote.entries, length-sets s.entries.now s.count a)
+
+-- By these a list that is written in parts is written as a whole.
+pub ruleset steps = (listed_none, listed_both, listed_as, room_first, room_after)

@@ -11,21 +11,20 @@ use Rattle.stated.specs.Wrote.{Wrote, wrote_as, wrote_front}
 use Rattle.refusal.specs.declared.Refusal.{Refusal}
 use Rattle.refusal.specs.declared.Refusal.TheVariants.{Entries}
 use Rattle.refusal.specs.Number.{number_of}
-use Rattle.tree.specs.Tree.{Tree, All, one, trees, size}
-use Rattle.tree.specs.Room.{records_in}
-use Rattle.tree.specs.Walk.{Holds}
+use Rattle.tree.specs.Tree.{Tree, All, trees, size}
 use Rattle.tree.specs.Fields.{settings_of, count_of}
 use Rattle.tree.specs.Refusal.{list_effects_limits, refusal, tree_of}
 use Rattle.tree.specs.Encoding.{Bytes}
 use Rattle.tree.specs.Stands.{formed_one}
 use Rattle.tree.specs.Accepted.{Accepted}
-use Rattle.tree.proofs.Accepted.{passed, counted_parts, counted_room, accepted}
+use Rattle.tree.proofs.Accepted.{passed, counted_parts, accepted}
 use Rattle.file.specs.Answer as check
 use Rattle.rules.specs.Settings.{Settings}
 use Rattle.rules.specs.Effects.{effects, effects_of}
 use Rattle.rules.proofs.Theorems.{few_effects}
 use Rattle.readings.specs.Given.{settings_given}
-use Rattle.readings.specs.At.{HeldAt, forest_at, forest_is}
+use Rattle.readings.specs.At.{HeldAt, forest_at}
+use Rattle.readings.specs.Root as root
 use Rattle.effects.specs.Listing.{Listable}
 use Rattle.effects.specs.Answer.{number, effect_list_given, AnswersGiven}
 
@@ -65,16 +64,11 @@ module _ (s : List ℕ) (st n : ℕ) (e : check.accepted_with st n ≡ check.che
     t = tree_of s
 
     pub root_held : HeldAt s 0 (n - 0)
-    unfolding t
-    root_held =
-        let h : Holds s 0 (n - 0) (one t) = record { stands = A.stands; sized = omega (arith, is_count, A.sized) } in
-        let f = forest_is s 0 (n - 0) (one t) h in
-        let l : 0 + (n - 0) ≤ records_in s = omega (arith, is_count, counted_room (counted_parts list_effects_limits.records s (passed list_effects_limits s is_zero).counted)) in
-        rw f (h.stands, sym h.sized, l)
+    root_held = root.root_held list_effects_limits s n is_zero is_count bs
 
     root_trees : trees (forest_at s 0 (n - 0)) ≡ t ∷ []
     unfolding t
-    root_trees = ap trees (forest_is s 0 (n - 0) (one t) (record { stands = A.stands; sized = omega (arith, is_count, A.sized) }))
+    root_trees = root.root_trees list_effects_limits s n is_zero is_count bs
 
     pub root_listable : All (Listable 65) (trees (forest_at s 0 (n - 0)))
     unfolding t

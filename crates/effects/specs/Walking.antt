@@ -1,48 +1,39 @@
 -- The walk over a list of trees, of each of which f is listed.
-use Rattle.std.specs.Prelude.{◌≡◌, refl, List, [], ◌∷◌, ◌++◌, ℕ, ◌+◌, ◌<◌, length}
-use Rattle.std.proofs.Common.{sym, ap, ◌∙◌, append_assoc, append-nil, arith, length-append}
+use Rattle.std.specs.Prelude.{◌≡◌, refl, List, [], ◌∷◌, ◌++◌, ℕ, ◌+◌, ◌<◌}
+use Rattle.std.proofs.Common.{sym, ap, ◌∙◌, append_assoc, append-nil, arith}
 use Rattle.tree.specs.Tree.{Forest, nil, node, Tree, All, trees, records, size}
 use Rattle.rules.specs.Lists.{concat_map}
 use Rattle.rules.proofs.Lists.{all_join, concat_map_append}
 use Rattle.readings.specs.Entered.{entered}
-use Rattle.stated.specs.Wrote.{Wrote, wrote_both, wrote_as}
-use Rattle.effects.specs.Listing.{Listable, listable_under}
+use Rattle.effects.specs.declared.listing.Listing.{Listing}
+use Rattle.effects.specs.Listing.{HasRoom, Listable, Listed, listable_under, listed_as, listed_both, room_after, room_first}
 
 -- Where it stands: `left` is yet to be listed, and the list before is written.
-pub record Walking (f : Tree → List ℕ) (depth : ℕ) (all : List Tree) (old : List ℕ) (pos : ℕ) (left : List Tree) (cur : List ℕ) (next : ℕ) : Type 0 where
+pub record Walking (f : Tree → List ℕ) (depth : ℕ) (all : List Tree) (old : Listing) (left : List Tree) (cur : Listing) : Type 0 where
   pub done : List ℕ
-  pub wrote : Wrote old cur pos next done
+  pub listed : Listed old cur done
   pub whole : concat_map f all ≡ done ++ concat_map f left
   pub listable : All (Listable depth) left
-  pub same : length cur ≡ length old
 
-module _ {f : Tree → List ℕ} {depth : ℕ} {all : List Tree} {old : List ℕ} {pos : ℕ} where
-  module _ {left : List Tree} {cur : List ℕ} {next : ℕ} (w : Walking f depth all old pos left cur next) where
-    pub walk_done : left ≡ [] → Wrote old cur pos next (concat_map f all)
-    walk_done e = wrote_as w.wrote (sym (w.whole ∙ rw e (append-nil w.done)))
+module _ {f : Tree → List ℕ} {depth : ℕ} {all : List Tree} {old : Listing} where
+  module _ {left : List Tree} {cur : Listing} (w : Walking f depth all old left cur) where
+    pub walk_done : left ≡ [] → Listed old cur (concat_map f all)
+    walk_done e = listed_as w.listed (sym (w.whole ∙ rw e (append-nil w.done)))
 
     -- a is listed, and then what is listed of the trees in rest.
     module _ (a : List ℕ) (rest : List Tree) (e : concat_map f left ≡ a ++ concat_map f rest) where
-      pub walk_room : pos + length (concat_map f all) < length old → next + length a < length cur
-      walk_room r =
-          omega (
-            arith,
-            r,
-            w.same,
-            w.wrote.ends,
-            ap length w.whole,
-            length-append w.done (concat_map f left),
-            ap length e,
-            length-append a (concat_map f rest),
-          )
+      whole : concat_map f all ≡ w.done ++ (a ++ concat_map f rest)
+      whole = w.whole ∙ ap (w.done ++◌) e
 
-      pub walk_step : {new : List ℕ} {next' : ℕ} → All (Listable depth) rest → Wrote cur new next next' a → length new ≡ length cur → Walking f depth all old pos rest new next'
-      walk_step l x n = record {
+      pub walk_room : HasRoom old (concat_map f all) → HasRoom cur a
+      walk_room r = room_first a (concat_map f rest) _ _ (room_after (a ++ concat_map f rest) w.listed (rw whole at r))
+
+      pub walk_step : {new : Listing} → All (Listable depth) rest → Listed cur new a → Walking f depth all old rest new
+      walk_step l x = record {
         done = w.done ++ a;
-        wrote = wrote_both w.wrote x;
-        whole = w.whole ∙ ap (w.done ++◌) e ∙ sym (append_assoc w.done a (concat_map f rest));
+        listed = listed_both w.listed x;
+        whole = whole ∙ sym (append_assoc w.done a (concat_map f rest));
         listable = l;
-        same = n ∙ w.same;
       }
 
     module _ (t : Tree) (rest : List Tree) (e : left ≡ t ∷ rest) where
@@ -52,10 +43,10 @@ module _ {f : Tree → List ℕ} {depth : ℕ} {all : List Tree} {old : List ℕ
       pub walk_first : Listable depth t
       walk_first = first.0
 
-      pub tree_room : pos + length (concat_map f all) < length old → next + length (f t) < length cur
+      pub tree_room : HasRoom old (concat_map f all) → HasRoom cur (f t)
       tree_room = walk_room (f t) rest (rw e refl)
 
-      pub walk_on : {new : List ℕ} {next' : ℕ} → Wrote cur new next next' (f t) → length new ≡ length cur → Walking f depth all old pos rest new next'
+      pub walk_on : {new : Listing} → Listed cur new (f t) → Walking f depth all old rest new
       walk_on = walk_step (f t) rest (rw e refl) first.1
 
       -- Of t, a is listed before its children.
@@ -67,10 +58,10 @@ module _ {f : Tree → List ℕ} {depth : ℕ} {all : List Tree} {old : List ℕ
             ∙ append_assoc a (concat_map f (trees t.kids)) (concat_map f rest)
             ∙ ap (a ++◌) (sym (concat_map_append f (trees t.kids) rest))
 
-        pub pass_room : pos + length (concat_map f all) < length old → next + length a < length cur
+        pub pass_room : HasRoom old (concat_map f all) → HasRoom cur a
         pass_room = walk_room a (trees t.kids ++ rest) passed
 
-        pub walk_pass : {new : List ℕ} {next' : ℕ} → Wrote cur new next next' a → length new ≡ length cur → Walking f depth all old pos (trees t.kids ++ rest) new next'
+        pub walk_pass : {new : Listing} → Listed cur new a → Walking f depth all old (trees t.kids ++ rest) new
         walk_pass = walk_step a (trees t.kids ++ rest) passed (all_join (Listable depth) (trees t.kids) rest (listable_under first.0) first.1)
 
 -- How many records trees take: fewer at each step.

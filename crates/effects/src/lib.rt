@@ -7,6 +7,7 @@ mod plan;
 
 ghost use Rattle.effects.specs.Answer.{AnswersGiven, Answers};
 
+use crate::listing::Listing;
 use file::{Accepted, Limits};
 use readings::{Settings, Trees};
 use refusal::Refusal;
@@ -31,8 +32,13 @@ pub fn list_effects_given(src: &[u8], yes: &[u32], entries: &mut [u64]) -> Resul
         at: 0,
         end: count,
     };
-    let next = listing::list_children(root, limits.depth, settings, entries, 0);
-    Ok(next)
+    let mut listing = Listing {
+        settings,
+        entries,
+        count: 0,
+    };
+    listing.list_children(root, limits.depth);
+    Ok(listing.count)
 }
 
 // Lists the effects of the tree file src in entries; no place counts as yes.

@@ -1,20 +1,27 @@
-// The effect list of trees, written from an entry on: an expression lists its children, and a list of children each expression.
+// The effect list of trees, as it is written: an expression lists its children, and a list of children each expression.
 // Remaining depth falls at each call that goes down; siblings are walked by a loop, so that the stack is bounded by the depth.
-ghost use Rattle.std.specs.Prelude.{◌≡◌, true, false, ◌+◌, ◌<◌, length, option_map, option_to_list};
-ghost use Rattle.stated.specs.Wrote.{Wrote};
+ghost use Rattle.std.specs.Prelude.{◌≡◌, true, false, option_map, option_to_list};
 ghost use Rattle.tree.specs.Tree.{All};
 ghost use Rattle.tree.specs.Symbol.{is_addition, is_string};
 ghost use Rattle.rules.specs.Lists.{concat_map};
 ghost use Rattle.rules.specs.Effects.{effects, effects_of};
 ghost use Rattle.readings.specs.Given.{given};
 ghost use Rattle.readings.specs.View.{left, tree};
-ghost use Rattle.effects.specs.Listing.{Listable, part_of, tested};
+ghost use Rattle.effects.specs.Listing.{HasRoom, Listable, Listed, part_of, tested};
 ghost use Rattle.effects.specs.Plan.{is_passed, planned};
 
 use crate::entry::Effect;
+use crate::plan;
 use crate::plan::Plan;
-use crate::{entry, plan};
 use readings::{Node, Settings, Trees};
+
+// What the list goes by, the entries that are lent for it, and how many of them are written.
+#[derive(Drop)]
+pub struct Listing<'a> {
+    pub settings: Settings<'a>,
+    pub entries: &'a mut [u64],
+    pub count: usize,
+}
 
 // What of a child is listed, where it is not the child alone.
 #[derive(Clone, Copy)]
@@ -27,237 +34,190 @@ pub enum Part {
     Static,
 }
 
-// Where a side's effects end, and whether it is a string.
-#[derive(Clone, Copy)]
-pub struct Side {
-    pub next: usize,
-    pub string: bool,
-}
+impl Listing<'_> {
+    // The trees of a list, in order. The walk goes into a node that is passed without a call.
+    #[cycle(listing)]
+    pub fn list_children(&mut self, list: Trees, depth: usize)
+        requires listable { All (Listable depth) (left list) }
+        requires room { HasRoom self.old (effects_of (given self.old.settings) (left list)) }
+        ensures { Listed self.old self.new (effects_of (given self.old.settings) (left list.entry)) }
+    {
+        let mut walk = list;
+        while let Some(node) = walk.first() {
+            if plan::is_passed(node) {
+                let itself = plan::passed_itself(node, self.settings);
+                self.list_if(node, itself, Effect::Itself);
+                walk.enter();
+            } else {
+                walk.next();
+                self.list_expr(node, depth);
+            }
+        }
+    }
 
-// The trees of a list, in order. The walk goes into a node that is passed without a call.
-#[cycle(listing)]
-pub fn list_children(
-    list: Trees,
-    depth: usize,
-    settings: Settings,
-    out: &mut [u64],
-    pos: usize,
-) -> usize
-    requires listable { All (Listable depth) (left list) }
-    requires room { pos + length (effects_of (given settings) (left list)) < length out.old }
-    ensures { Wrote out.old out.new pos result (effects_of (given settings.entry) (left list.entry)) }
-{
-    let mut walk = list;
-    let mut next = pos;
-    while let Some(node) = walk.first() {
-        if plan::is_passed(node) {
-            let itself = plan::passed_itself(node, settings);
-            next = entry::list_if(node, itself, Effect::Itself, out, next);
-            walk.enter();
+    // A part of each of the trees of a list.
+    #[cycle(listing)]
+    fn list_parts(&mut self, list: Trees, part: Part, depth: usize)
+        requires listable { All (Listable depth) (left list) }
+        requires room { HasRoom self.old (concat_map (part_of part (given self.old.settings)) (left list)) }
+        ensures { Listed self.old self.new (concat_map (part_of part (given self.old.settings)) (left list.entry)) }
+    {
+        for node in list {
+            self.list_part(node, part, depth);
+        }
+    }
+
+    // A part of one tree.
+    #[tactic(auto, using(crate::specs::Listing::steps, rules::proofs::Effects::key_is))]
+    #[cycle(listing)]
+    fn list_part(&mut self, node: Node, part: Part, depth: usize)
+        requires listable { Listable depth (tree node) }
+        requires room { HasRoom self.old (part_of part (given self.old.settings) (tree node)) }
+        ensures { Listed self.old self.new (part_of part (given self.old.settings) (tree node.entry)) }
+    {
+        match part {
+            Part::Coerced => {
+                let string = self.list_side(node, depth);
+                self.list_coercion(node, string);
+            }
+            Part::Key => {
+                let (key, _) = node.key_and_value();
+                self.list_any(key, depth - 1);
+            }
+            Part::Static => self.list_static(node, depth),
+        }
+    }
+
+    // The static value of a class element, or its block.
+    #[tactic(auto, using(readings::specs::Alone::own, crate::specs::Listing::steps, rules::proofs::Effects::static_is))]
+    #[cycle(listing)]
+    fn list_static(&mut self, node: Node, depth: usize)
+        requires listable { Listable depth (tree node) }
+        requires room { HasRoom self.old (part_of Part.Static (given self.old.settings) (tree node)) }
+        ensures { Listed self.old self.new (part_of Part.Static (given self.old.settings) (tree node.entry)) }
+    {
+        if readings::has_static_value(node.record) {
+            let (_, value) = node.key_and_value();
+            self.list_children(value, depth - 1);
+        }
+        let block = readings::nonempty_static_block(node.record);
+        self.list_if(node, block, Effect::Itself);
+    }
+
+    // A tree, if there is one.
+    #[cycle(listing)]
+    fn list_any(&mut self, node: Option<Node>, depth: usize)
+        requires listable { All (Listable depth) (option_to_list (option_map tree node)) }
+        requires room { HasRoom self.old (effects_of (given self.old.settings) (option_to_list (option_map tree node))) }
+        ensures { Listed self.old self.new (effects_of (given self.old.settings) (option_to_list (option_map tree node.entry))) }
+    {
+        if let Some(tree) = node {
+            self.list_children(tree.alone(), depth);
+        }
+    }
+
+    // An expression that is not passed, by its plan.
+    #[tactic(auto, using(crate::specs::Listing::steps, crate::specs::Plan::planned_as, crate::specs::Plan::plan_addition))]
+    #[cycle(listing)]
+    fn list_expr(&mut self, node: Node, depth: usize)
+        requires inner { is_passed (tree node).head.kind ≡ false }
+        requires listable { Listable depth (tree node) }
+        requires room { HasRoom self.old (effects (given self.old.settings) (tree node)) }
+        ensures { Listed self.old self.new (effects (given self.old.settings) (tree node.entry)) }
+    {
+        let below = depth - 1;
+        let mut children = node.children();
+        match plan::plan_of(node, self.settings) {
+            Plan::Nothing => {}
+            Plan::Children(when) => {
+                self.list_children(children, below);
+                self.list_if(node, when, Effect::Itself);
+            }
+            Plan::Coerced => self.list_parts(children, Part::Coerced, below),
+            Plan::Arguments => {
+                children.next();
+                self.list_children(children, below);
+            }
+            Plan::Test => self.list_any(children.next(), below),
+            Plan::Arm(when) => self.list_arm(children, when, below),
+            Plan::Addition => {
+                self.list_addition(node, depth);
+            }
+            Plan::Class => self.list_class(node, depth),
+        }
+    }
+
+    // Of the children of a conditional: the test, and then the consequent if the test counts as yes, or the alternate.
+    #[tactic(auto, using(crate::specs::Listing::steps, rules::proofs::Lists::all_take, rules::proofs::Lists::all_drop))]
+    #[cycle(listing)]
+    fn list_arm(&mut self, list: Trees, when: bool, depth: usize)
+        requires listable { All (Listable depth) (left list) }
+        requires room { HasRoom self.old (tested when (given self.old.settings) (left list)) }
+        ensures { Listed self.old self.new (tested when (given self.old.settings) (left list.entry)) }
+    {
+        let mut children = list;
+        let test = children.next();
+        self.list_any(test, depth);
+        let consequent = children.next();
+        if when {
+            self.list_any(consequent, depth);
         } else {
-            next = list_expr(node, depth, settings, out, next);
-            walk.next();
+            self.list_children(children, depth);
         }
     }
-    next
-}
 
-// A part of each of the trees of a list.
-#[cycle(listing)]
-fn list_parts(
-    list: Trees,
-    part: Part,
-    depth: usize,
-    settings: Settings,
-    out: &mut [u64],
-    pos: usize,
-) -> usize
-    requires listable { All (Listable depth) (left list) }
-    requires room { pos + length (concat_map (part_of part (given settings)) (left list)) < length out.old }
-    ensures { Wrote out.old out.new pos result (concat_map (part_of part (given settings.entry)) (left list.entry)) }
-{
-    let mut next = pos;
-    for node in list {
-        next = list_part(node, part, depth, settings, out, next);
-    }
-    next
-}
-
-// A part of one tree.
-#[cycle(listing)]
-fn list_part(
-    node: Node,
-    part: Part,
-    depth: usize,
-    settings: Settings,
-    out: &mut [u64],
-    pos: usize,
-) -> usize
-    requires listable { Listable depth (tree node) }
-    requires room { pos + length (part_of part (given settings) (tree node)) < length out.old }
-    ensures { Wrote out.old out.new pos result (part_of part (given settings.entry) (tree node.entry)) }
-{
-    match part {
-        Part::Coerced => {
-            let side = list_side(node, depth, settings, out, pos);
-            let symbol = readings::possible_symbol_if(node.record, side.string);
-            entry::list_if(node, symbol, Effect::Coercion, out, side.next)
+    // A side of an addition, or a template's child. The value is whether it is a string.
+    #[tactic(auto, using(readings::specs::Alone::own, tree::specs::Symbol::is_string_other))]
+    #[cycle(listing)]
+    fn list_side(&mut self, node: Node, depth: usize) -> bool
+        requires listable { Listable depth (tree node) }
+        requires room { HasRoom self.old (effects (given self.old.settings) (tree node)) }
+        ensures listed { Listed self.old self.new (effects (given self.old.settings) (tree node.entry)) }
+        ensures string { result ≡ is_string (tree node.entry) }
+    {
+        if node.record.is_addition() {
+            return self.list_addition(node, depth);
         }
-        Part::Key => {
-            let (key, _) = node.key_and_value();
-            list_any(key, depth - 1, settings, out, pos)
+        self.list_children(node.alone(), depth);
+        node.record.has_string_fact()
+    }
+
+    // An addition. The value is whether it is a string.
+    #[cycle(listing)]
+    fn list_addition(&mut self, node: Node, depth: usize) -> bool
+        requires addition { is_addition (tree node) ≡ true }
+        requires listable { Listable depth (tree node) }
+        requires room { HasRoom self.old (effects (given self.old.settings) (tree node)) }
+        ensures listed { Listed self.old self.new (effects (given self.old.settings) (tree node.entry)) }
+        ensures string { result ≡ is_string (tree node.entry) }
+    {
+        let (left, right) = node.first_two().unwrap();
+        let first = self.list_side(left, depth - 1);
+        let second = self.list_side(right, depth - 1);
+        if first {
+            self.list_coercion(right, second);
+            return true;
         }
-        Part::Static => list_static(node, depth, settings, out, pos),
-    }
-}
-
-// The static value of a class element, or its block.
-#[cycle(listing)]
-fn list_static(node: Node, depth: usize, settings: Settings, out: &mut [u64], pos: usize) -> usize
-    requires listable { Listable depth (tree node) }
-    requires room { pos + length (part_of Part.Static (given settings) (tree node)) < length out.old }
-    ensures { Wrote out.old out.new pos result (part_of Part.Static (given settings.entry) (tree node.entry)) }
-{
-    let mut next = pos;
-    if readings::has_static_value(node.record) {
-        let (_, value) = node.key_and_value();
-        next = list_children(value, depth - 1, settings, out, pos);
-    }
-    let block = readings::nonempty_static_block(node.record);
-    entry::list_if(node, block, Effect::Itself, out, next)
-}
-
-// A tree, if there is one.
-#[cycle(listing)]
-fn list_any(
-    node: Option<Node>,
-    depth: usize,
-    settings: Settings,
-    out: &mut [u64],
-    pos: usize,
-) -> usize
-    requires listable { All (Listable depth) (option_to_list (option_map tree node)) }
-    requires room { pos + length (effects_of (given settings) (option_to_list (option_map tree node))) < length out.old }
-    ensures { Wrote out.old out.new pos result (effects_of (given settings.entry) (option_to_list (option_map tree node.entry))) }
-{
-    match node {
-        Some(tree) => list_children(tree.alone(), depth, settings, out, pos),
-        None => pos,
-    }
-}
-
-// An expression that is not passed, by its plan.
-#[cycle(listing)]
-fn list_expr(node: Node, depth: usize, settings: Settings, out: &mut [u64], pos: usize) -> usize
-    requires inner { is_passed (tree node).head.kind ≡ false }
-    requires listable { Listable depth (tree node) }
-    requires room { pos + length (effects (given settings) (tree node)) < length out.old }
-    ensures { Wrote out.old out.new pos result (effects (given settings.entry) (tree node.entry)) }
-{
-    let below = depth - 1;
-    let mut children = node.children();
-    match plan::plan_of(node, settings) {
-        Plan::Nothing => pos,
-        Plan::Children(when) => {
-            let next = list_children(children, below, settings, out, pos);
-            entry::list_if(node, when, Effect::Itself, out, next)
+        if right.record.has_string_fact() {
+            self.list_coercion(left, first);
+            return true;
         }
-        Plan::Coerced => list_parts(children, Part::Coerced, below, settings, out, pos),
-        Plan::Arguments => {
-            children.next();
-            list_children(children, below, settings, out, pos)
-        }
-        Plan::Test => list_any(children.next(), below, settings, out, pos),
-        Plan::Arm(when) => list_arm(children, when, below, settings, out, pos),
-        Plan::Addition => list_addition(node, depth, settings, out, pos).next,
-        Plan::Class => list_class(node, depth, settings, out, pos),
+        self.list_if(node, node.is_flagged(), Effect::Itself);
+        false
     }
-}
 
-// Of the children of a conditional: the test, and then the consequent if the test counts as yes, or the alternate.
-#[cycle(listing)]
-fn list_arm(
-    list: Trees,
-    when: bool,
-    depth: usize,
-    settings: Settings,
-    out: &mut [u64],
-    pos: usize,
-) -> usize
-    requires listable { All (Listable depth) (left list) }
-    requires room { pos + length (tested when (given settings) (left list)) < length out.old }
-    ensures { Wrote out.old out.new pos result (tested when (given settings.entry) (left list.entry)) }
-{
-    let mut children = list;
-    let test = children.next();
-    let next = list_any(test, depth, settings, out, pos);
-    let consequent = children.next();
-    if when {
-        return list_any(consequent, depth, settings, out, next);
+    // Heritage, the class itself, all computed keys, then static values and blocks.
+    #[cycle(listing)]
+    fn list_class(&mut self, node: Node, depth: usize)
+        requires listable { Listable depth (tree node) }
+        requires room { HasRoom self.old (planned Plan.Class (given self.old.settings) (tree node)) }
+        ensures { Listed self.old self.new (planned Plan.Class (given self.old.settings) (tree node.entry)) }
+    {
+        let below = depth - 1;
+        let (heritage, elements) = node.heritage_and_elements();
+        self.list_any(heritage, below);
+        self.list_if(node, node.class_is_effect(), Effect::Itself);
+        self.list_parts(elements, Part::Key, below);
+        self.list_parts(elements, Part::Static, below);
     }
-    list_children(children, depth, settings, out, next)
-}
-
-// A side of an addition, or a template's child: whether it is a string comes with its listing.
-#[cycle(listing)]
-fn list_side(node: Node, depth: usize, settings: Settings, out: &mut [u64], pos: usize) -> Side
-    requires listable { Listable depth (tree node) }
-    requires room { pos + length (effects (given settings) (tree node)) < length out.old }
-    ensures listed { Wrote out.old out.new pos result.next (effects (given settings.entry) (tree node.entry)) }
-    ensures string { result.string ≡ is_string (tree node.entry) }
-{
-    if node.record.is_addition() {
-        return list_addition(node, depth, settings, out, pos);
-    }
-    let next = list_children(node.alone(), depth, settings, out, pos);
-    let string = node.record.has_string_fact();
-    Side { next, string }
-}
-
-#[cycle(listing)]
-fn list_addition(node: Node, depth: usize, settings: Settings, out: &mut [u64], pos: usize) -> Side
-    requires addition { is_addition (tree node) ≡ true }
-    requires listable { Listable depth (tree node) }
-    requires room { pos + length (effects (given settings) (tree node)) < length out.old }
-    ensures listed { Wrote out.old out.new pos result.next (effects (given settings.entry) (tree node.entry)) }
-    ensures string { result.string ≡ is_string (tree node.entry) }
-{
-    let Some((left, right)) = node.first_two() else {
-        return Side {
-            next: pos,
-            string: false,
-        };
-    };
-    let first = list_side(left, depth - 1, settings, out, pos);
-    let second = list_side(right, depth - 1, settings, out, first.next);
-    if first.string {
-        let symbol = readings::possible_symbol_if(right.record, second.string);
-        let next = entry::list_if(right, symbol, Effect::Coercion, out, second.next);
-        return Side { next, string: true };
-    }
-    if right.record.has_string_fact() {
-        let symbol = readings::possible_symbol_if(left.record, first.string);
-        let next = entry::list_if(left, symbol, Effect::Coercion, out, second.next);
-        return Side { next, string: true };
-    }
-    let next = entry::list_if(node, node.is_flagged(), Effect::Itself, out, second.next);
-    Side {
-        next,
-        string: false,
-    }
-}
-
-// Heritage, the class itself, all computed keys, then static values and blocks.
-#[cycle(listing)]
-fn list_class(node: Node, depth: usize, settings: Settings, out: &mut [u64], pos: usize) -> usize
-    requires listable { Listable depth (tree node) }
-    requires room { pos + length (planned Plan.Class (given settings) (tree node)) < length out.old }
-    ensures { Wrote out.old out.new pos result (planned Plan.Class (given settings.entry) (tree node.entry)) }
-{
-    let below = depth - 1;
-    let (heritage, elements) = node.heritage_and_elements();
-    let next = list_any(heritage, below, settings, out, pos);
-    let own = entry::list_if(node, node.class_is_effect(), Effect::Itself, out, next);
-    let keys = list_parts(elements, Part::Key, below, settings, out, own);
-    list_parts(elements, Part::Static, below, settings, out, keys)
 }

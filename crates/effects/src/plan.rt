@@ -5,7 +5,7 @@ ghost use Rattle.readings.specs.View.{tree};
 ghost use Rattle.effects.specs.Plan.{is_passed, plan};
 ghost use Rattle.effects.specs.Passed.{passed_itself};
 
-use fields::record::kind;
+use fields::Kind;
 use readings::{Node, Settings};
 
 #[derive(Clone, Copy)]
@@ -26,34 +26,34 @@ pub enum Plan {
 }
 
 // The plan of a node that is not passed.
-#[tactic(auto, using(readings::specs::Alone::own), unfolding(crate::specs::Plan::plan, rules::specs::Handler::handler, readings::specs::At::tree_at))]
+#[tactic(auto, unfolding(crate::specs::Plan::plan, rules::specs::Handler::handler, readings::specs::At::tree_at))]
 pub fn plan_of(node: Node, settings: Settings) -> Plan
     ensures { result ≡ plan (given settings.entry) (tree node.entry) }
 {
-    match node.record.kind() {
-        kind::SPREAD => Plan::Children(node.is_flagged()),
-        kind::TEMPLATE => Plan::Coerced,
-        kind::UNARY => match node.record.sub() {
+    match Kind::try_from(node.record.kind()) {
+        Ok(Kind::Spread) => Plan::Children(node.is_flagged()),
+        Ok(Kind::Template) => Plan::Coerced,
+        Ok(Kind::Unary) => match node.record.sub() {
             1 | 2 => Plan::Children(false),
             3 if node.of_identifier() => Plan::Nothing,
             3 => Plan::Children(false),
             _ => Plan::Children(node.is_flagged()),
         },
-        kind::BINARY => match node.record.sub() {
+        Ok(Kind::Binary) => match node.record.sub() {
             1 => Plan::Children(false),
             2 => Plan::Addition,
             _ => Plan::Children(node.is_flagged()),
         },
-        kind::CALL if node.pure_call(settings) => Plan::Arguments,
-        kind::NEW if readings::pure_new(node.record, settings) => Plan::Arguments,
-        kind::CALL | kind::NEW => Plan::Children(node.is_flagged()),
-        kind::CLASS => Plan::Class,
+        Ok(Kind::Call) if node.pure_call(settings) => Plan::Arguments,
+        Ok(Kind::New) if node.pure_new(settings) => Plan::Arguments,
+        Ok(Kind::Call | Kind::New) => Plan::Children(node.is_flagged()),
+        Ok(Kind::Class) => Plan::Class,
         // "its right side running on yes for and, on no for or"
-        kind::LOGICAL if node.test_is_yes(settings) == (node.record.sub() == 1) => Plan::Children(
-            false,
-        ),
-        kind::LOGICAL => Plan::Test,
-        kind::CONDITIONAL => Plan::Arm(node.test_is_yes(settings)),
+        Ok(Kind::Logical) if node.test_is_yes(settings) == (node.record.sub() == 1) => {
+            Plan::Children(false)
+        }
+        Ok(Kind::Logical) => Plan::Test,
+        Ok(Kind::Conditional) => Plan::Arm(node.test_is_yes(settings)),
         _ => Plan::Children(false),
     }
 }

@@ -1,5 +1,6 @@
 // The kinds of nodes, by document 01's names and with its numbers; as definitions: crates/tree/specs/Kind.antt.
-ghost use Rattle.fields.specs.Kind.{Decodes};
+ghost use Rattle.std.specs.Prelude.{◌≡◌};
+ghost use Rattle.fields.specs.Kind.{Decodes, number_of};
 
 use std::error::Error;
 use std::fmt;
@@ -28,6 +29,14 @@ pub enum Kind {
     Logical = 20,
     Conditional = 21,
     Assignment = 22,
+}
+
+impl From<Kind> for u8 {
+    ghost from_gives = { λ kind number. number ≡ number_of kind };
+
+    fn from(kind: Kind) -> Self {
+        kind as u8
+    }
 }
 
 // A number that no kind has.

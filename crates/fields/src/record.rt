@@ -2,9 +2,7 @@
 ghost use Rattle.std.specs.Prelude.{◌+◌, ◌≤◌};
 ghost use Rattle.tree.specs.Room.{records_in};
 
-pub mod kind;
-
-use crate::{Place, offset};
+use crate::{Kind, Place, offset};
 
 // Record `at` of src. All its fields are there.
 #[derive(Clone, Copy)]
@@ -15,13 +13,14 @@ pub struct Record<'a> {
 }
 
 impl Record<'_> {
-    ghost use Rattle.std.specs.Prelude.{◌≡◌, ◌<◌, length};
+    ghost use Rattle.std.specs.Prelude.{◌≡◌, ◌<◌, eqb, length};
     ghost use Rattle.le.specs.Le.{u32_at};
     ghost use Rattle.tree.specs.Offset as offset;
     ghost use Rattle.tree.specs.Layout.{v2, version_in, start_in};
     ghost use Rattle.tree.specs.Fields.{children_at, subtree_at};
     ghost use Rattle.tree.specs.Record.{never_symbol_alone};
     ghost use Rattle.tree.specs.Symbol.{is_addition, string_fact};
+    ghost use Rattle.fields.specs.Kind.{number_of};
     ghost use Rattle.fields.specs.Place.{as_place};
     ghost use Rattle.fields.specs.Record.{head, node};
 
@@ -37,6 +36,12 @@ impl Record<'_> {
         ensures { result ≡ (head self.entry).kind }
     {
         self.src[self.start() + offset::KIND]
+    }
+
+    pub fn is_kind(self, kind: Kind) -> bool
+        ensures { result ≡ eqb (head self.entry).kind (number_of kind) }
+    {
+        self.kind() == u8::from(kind)
     }
 
     pub fn facts(self) -> u8
@@ -102,7 +107,7 @@ impl Record<'_> {
     pub fn is_addition(self) -> bool
         ensures { result ≡ is_addition (node self.entry) }
     {
-        self.kind() == kind::BINARY && self.sub() == 2
+        self.is_kind(Kind::Binary) && self.sub() == 2
     }
 
     #[tactic(auto, unfolding(tree::specs::Symbol::string_fact))]
@@ -117,11 +122,8 @@ impl Record<'_> {
         ensures { result ≡ never_symbol_alone (head self.entry) }
     {
         let sub = self.sub();
-        match self.kind() {
-            kind::TEMPLATE => true,
-            kind::UNARY => sub <= 3,
-            kind::BINARY => sub == 1,
-            _ => false,
-        }
+        self.is_kind(Kind::Unary) && sub <= 3
+            || self.is_kind(Kind::Binary) && sub == 1
+            || self.is_kind(Kind::Template)
     }
 }

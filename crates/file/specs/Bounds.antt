@@ -1,6 +1,6 @@
 -- Subs and child counts by a least and a most number of each kind, which the code tests in place of the rules by kind.
-use Rattle.std.specs.Prelude.{◌≡◌, Bool, true, cond, not, ◌&&◌, ◌||◌, ℕ, eqb, leb}
-use Rattle.std.proofs.Common.{arith, ne_eqb}
+use Rattle.std.specs.Prelude.{◌≡◌, Bool, true, false, cond, not, ◌&&◌, ◌||◌, ℕ, eqb, leb}
+use Rattle.std.proofs.Common.{arith}
 use Rattle.std.proofs.lemmas.Bool.Decides.{nat_tests}
 use Rattle.tree.specs.Tree.{Head}
 use Rattle.tree.specs.Children.{child_count_ok}
@@ -42,9 +42,9 @@ within_by : (none one two three some : Bool) (n : ℕ)
     (eqb (cond none 0 (cond one 1 (cond two 2 3))) 3 && not (eqb (cond none 0 (cond one 1 (cond two 2 (cond three 3 (cond some 1 0))))) 3))
 within_by none one two three some n = grind (arith, nat_tests)
 
-pub count_other : (h : Head) (k n : ℕ) → k ≡ h.kind → (k ≡ kind.property → ⊥) → (k ≡ kind.class → ⊥) → (k ≡ kind.element → ⊥)
-    → child_count_ok h n ≡ count_within k n
+pub count_other : (h : Head) (n : ℕ) → eqb h.kind kind.property ≡ false → eqb h.kind kind.class ≡ false → eqb h.kind kind.element ≡ false
+    → child_count_ok h n ≡ count_within h.kind n
 unfolding child_count_ok count_within
-count_other h k n ek p c e =
-    rw (← ek, ne_eqb k kind.property p, ne_eqb k kind.class c, ne_eqb k kind.element e)
-    (within_by (has_none k) (has_one k) (has_two k) (eqb k kind.conditional) (eqb k kind.call || eqb k kind.new) n)
+count_other h n p c e =
+    rw (p, c, e)
+    (within_by (has_none h.kind) (has_one h.kind) (has_two h.kind) (eqb h.kind kind.conditional) (eqb h.kind kind.call || eqb h.kind kind.new) n)

@@ -64,13 +64,13 @@ module _ (c : ℕ) where
 abbrev pub Permits : ℕ → Head → Bool → Type 0
 Permits kinds h first = (k : ℕ) → holds kinds k ≡ may_stand h first k
 
-pub permits_others : (h : Head) {k kinds : ℕ} → k ≡ h.kind → kinds ≡ kinds_under k → Permits kinds h false
+pub permits_others : (h : Head) {kinds : ℕ} → kinds ≡ kinds_under h.kind → Permits kinds h false
 unfolding may_stand kinds_under
-permits_others h ek es c = rw (es, ek) (grind (arith, nat_tests, expressions_hold c, array_holds c, arguments_hold c, object_holds c, class_holds c))
+permits_others h es c = rw es (grind (arith, nat_tests, expressions_hold c, array_holds c, arguments_hold c, object_holds c, class_holds c))
 
-pub permits_first : (h : Head) (kinds : ℕ) {k sub taken : ℕ} → k ≡ h.kind → sub ≡ h.sub → taken ≡ first_under k sub kinds → Permits kinds h false → Permits taken h true
+pub permits_first : (h : Head) (kinds : ℕ) {taken : ℕ} → taken ≡ first_under h.kind h.sub kinds → Permits kinds h false → Permits taken h true
 unfolding first_under may_stand
-permits_first h kinds ek es et others c = rw (et, ek, es) (grind (arith, nat_tests, expressions_hold c, others c))
+permits_first h kinds et others c = rw et (grind (arith, nat_tests, expressions_hold c, others c))
 
 -- The walk over children, where the next one is to be of a kind in `taken`.
 pub record Walking (s : List ℕ) (h : Head) (n from end taken k p : ℕ) : Type 0 where

@@ -10,8 +10,7 @@ ghost use Rattle.file.specs.Bounds.{least_children, most_children, count_within}
 ghost use Rattle.file.specs.Parents.{kinds_under, first_under};
 
 use crate::kinds::{bits_of, has, pick};
-use fields::Record;
-use fields::record::kind;
+use fields::{Kind, Record};
 
 // The kinds that may stand somewhere, a bit for each.
 const EXPRESSIONS: usize = 0b1111_1111_1111_0111_1111_0100_1111_1111;
@@ -65,35 +64,39 @@ fn child_count_ok(node: Record) -> bool
 {
     let sub = usize::from(node.sub());
     let n = node.children();
-    match node.kind() {
-        kind::PROPERTY => n == 1 + sub,
-        kind::CLASS => sub / 2 % 2 <= n,
-        kind::ELEMENT => n == sub / 16 % 2 + sub / 64 % 2,
-        kind => count_within(kind, n),
+    if node.is_kind(Kind::Property) {
+        return n == 1 + sub;
     }
+    if node.is_kind(Kind::Class) {
+        return sub / 2 % 2 <= n;
+    }
+    if node.is_kind(Kind::Element) {
+        return n == sub / 16 % 2 + sub / 64 % 2;
+    }
+    count_within(node.kind(), n)
 }
 
-// The kinds that a kind takes as children, but for a callee and a heritage.
+// The kinds that a node takes as children, but for a callee and a heritage.
 #[tactic(auto, unfolding(crate::specs::Parents::kinds_under))]
-fn kinds_under(kind: u8) -> usize
-    ensures { result ≡ kinds_under kind }
+fn kinds_under(node: Record) -> usize
+    ensures { result ≡ kinds_under (head node.entry).kind }
 {
-    let array = pick(kind == kind::ARRAY, ARRAY_CHILDREN, EXPRESSIONS);
-    let object = pick(kind == kind::OBJECT, OBJECT_CHILDREN, array);
-    let call = pick(kind == kind::CALL, ARGUMENTS, object);
-    let new = pick(kind == kind::NEW, ARGUMENTS, call);
-    pick(kind == kind::CLASS, CLASS_ELEMENTS, new)
+    let array = pick(node.is_kind(Kind::Array), ARRAY_CHILDREN, EXPRESSIONS);
+    let object = pick(node.is_kind(Kind::Object), OBJECT_CHILDREN, array);
+    let call = pick(node.is_kind(Kind::Call), ARGUMENTS, object);
+    let new = pick(node.is_kind(Kind::New), ARGUMENTS, call);
+    pick(node.is_kind(Kind::Class), CLASS_ELEMENTS, new)
 }
 
 // The kinds that a node takes as its first child, where `kinds` are those of its others.
 #[tactic(auto, unfolding(crate::specs::Parents::first_under))]
-fn first_under(kind: u8, sub: u8, kinds: usize) -> usize
-    ensures { result ≡ first_under kind sub kinds }
+fn first_under(node: Record, kinds: usize) -> usize
+    ensures { result ≡ first_under (head node.entry).kind (head node.entry).sub kinds }
 {
-    let heritage = pick(sub / 2 % 2 == 1, EXPRESSIONS, kinds);
-    let class = pick(kind == kind::CLASS, heritage, kinds);
-    let new = pick(kind == kind::NEW, EXPRESSIONS, class);
-    pick(kind == kind::CALL, EXPRESSIONS, new)
+    let heritage = pick(node.sub() / 2 % 2 == 1, EXPRESSIONS, kinds);
+    let class = pick(node.is_kind(Kind::Class), heritage, kinds);
+    let new = pick(node.is_kind(Kind::New), EXPRESSIONS, class);
+    pick(node.is_kind(Kind::Call), EXPRESSIONS, new)
 }
 
 // Whether the node's children, from the record behind it on, end exactly at record end, and each may stand there.
@@ -101,9 +104,8 @@ fn children_end(node: Record, end: usize) -> bool
     requires { end ≤ records_in node.src.now }
     ensures { result ≡ children_end node.entry.src.now (head node.entry) true (children_at node.entry.src.now node.entry.at) (node.entry.at + 1) end }
 {
-    let kind = node.kind();
-    let kinds = kinds_under(kind);
-    let mut taken = first_under(kind, node.sub(), kinds);
+    let kinds = kinds_under(node);
+    let mut taken = first_under(node, kinds);
     let n = node.children();
     let src = node.src;
     let mut at = node.at + 1;

@@ -88,7 +88,7 @@ fn check_header(src: &[u8], limits: Limits) -> Result<Accepted, Refusal>
     if 8 <= settings {
         return Err(Refusal::Settings);
     }
-    let count = le::get16(src, 6) as usize;
+    let count = usize::from(le::get16(src, 6));
     if !count_ok(src, count, limits.records) {
         return Err(Refusal::Count);
     }

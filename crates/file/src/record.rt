@@ -9,20 +9,19 @@ ghost use Rattle.file.specs.Facts.{never_kind};
 ghost use Rattle.file.specs.Bounds.{least_sub, more_subs};
 
 use crate::kinds::{bits_of, pick};
-use fields::Record;
-use fields::record::kind;
+use fields::{Kind, Record};
 
-// The permitted fact bits of a kind: 1 is the flag, 31 the flag and both pairs, 127 these with annotated and listed, and 255 all.
+// The permitted fact bits of a node: 1 is the flag, 31 the flag and both pairs, 127 these with annotated and listed, and 255 all.
 #[tactic(auto, unfolding(tree::specs::Record::allowed_facts))]
-fn allowed_facts(kind: u8) -> usize
-    ensures { result ≡ allowed_facts kind }
+fn allowed_facts(node: Record) -> usize
+    ensures { result ≡ allowed_facts (head node.entry).kind }
 {
-    let new = pick(kind == kind::NEW, 127, 31);
-    let call = pick(kind == kind::CALL, 255, new);
-    let spread = pick(kind == kind::SPREAD, 1, call);
-    let element = pick(kind == kind::ELEMENT, 0, spread);
-    let property = pick(kind == kind::PROPERTY, 0, element);
-    pick(kind == kind::ELISION, 0, property)
+    let new = pick(node.is_kind(Kind::New), 127, 31);
+    let call = pick(node.is_kind(Kind::Call), 255, new);
+    let spread = pick(node.is_kind(Kind::Spread), 1, call);
+    let element = pick(node.is_kind(Kind::Element), 0, spread);
+    let property = pick(node.is_kind(Kind::Property), 0, element);
+    pick(node.is_kind(Kind::Elision), 0, property)
 }
 
 // Whether bits 1 to 4 of the facts are permitted, a bit for each number: the string pair times 4 and the symbol pair. The bits of
@@ -48,16 +47,15 @@ fn never_kind(kind: u8) -> usize
 fn facts_ok(node: Record) -> bool
     ensures { result ≡ facts_ok (head node.entry) }
 {
-    let kind = node.kind();
     let facts = node.facts();
-    if kind == kind::LITERAL {
+    if node.is_kind(Kind::Literal) {
         return facts == 18;
     }
     // Allowed facts are one less than a power of two, so no more than they means no other bit. Last, 1 for such a kind and 2 for a symbol:
     // a sum in place of a test by either, which would often be mispredicted.
-    usize::from(facts) <= allowed_facts(kind)
+    usize::from(facts) <= allowed_facts(node)
         && pairs_ok(facts)
-        && (never_kind(kind) + usize::from(facts / 2 % 4) != 3 || !node.never_symbol_alone())
+        && (never_kind(node.kind()) + usize::from(facts / 2 % 4) != 3 || !node.never_symbol_alone())
 }
 
 #[tactic(auto, using(std::proofs::lemmas::Bool::Decides::nat_tests), unfolding(tree::specs::Record::element_sub_ok))]
@@ -93,12 +91,11 @@ fn more_subs(kind: u8) -> usize
 fn sub_ok(node: Record) -> bool
     ensures { result ≡ sub_ok (head node.entry) }
 {
-    let kind = node.kind();
-    let sub = node.sub();
-    if kind == kind::ELEMENT {
-        return element_sub_ok(sub);
+    if node.is_kind(Kind::Element) {
+        return element_sub_ok(node.sub());
     }
-    let sub = usize::from(sub);
+    let kind = node.kind();
+    let sub = usize::from(node.sub());
     let least = least_sub(kind);
     least <= sub && sub <= least + more_subs(kind)
 }
@@ -107,21 +104,17 @@ fn sub_ok(node: Record) -> bool
 fn record_ok(node: Record) -> bool
     ensures { result ≡ record_ok (head node.entry) }
 {
-    matches!(node.kind(), kind::LITERAL..=kind::ASSIGNMENT)
-        && facts_ok(node)
-        && sub_ok(node)
-        && node.reserved() == 0
+    Kind::try_from(node.kind()).is_ok() && facts_ok(node) && sub_ok(node) && node.reserved() == 0
 }
 
 #[tactic(auto, using(std::proofs::lemmas::Bool::Decides::nat_tests), unfolding(tree::specs::Record::included, tree::specs::Record::logical_taken))]
 fn taken(node: Record, logicals: bool) -> bool
     ensures { result ≡ taken logicals (head node.entry) }
 {
-    match node.kind() {
-        kind::LOGICAL => logicals && node.sub() != 0,
-        kind::ASSIGNMENT => false,
-        _ => true,
+    if node.is_kind(Kind::Logical) {
+        return logicals && node.sub() != 0;
     }
+    !node.is_kind(Kind::Assignment)
 }
 
 // Whether each of the first n records passes the test of refusal 5.

@@ -5,8 +5,7 @@ ghost use Rattle.fields.specs.Record.{head};
 ghost use Rattle.file.specs.Symbols.{goes_on, part_ok_at, GivenPart, Whole};
 
 use crate::kinds::pick;
-use fields::Record;
-use fields::record::kind;
+use fields::{Kind, Record};
 
 // Whether the node is an addition that is said to be a symbol, or is on the left of one, as `symbol` says of it. Choices rather than a
 // test by kind, which would often be mispredicted.
@@ -17,7 +16,7 @@ fn goes_on(node: Record, symbol: bool) -> bool
     if symbol {
         return node.is_addition();
     }
-    let addition = pick(node.kind() == kind::BINARY, node.sub(), 0);
+    let addition = pick(node.is_kind(Kind::Binary), node.sub(), 0);
     let said = pick(addition == 2, node.facts() / 2 % 4, 0);
     said == 2
 }

@@ -3,7 +3,7 @@ ghost use Rattle.rules.specs.Facts.{flagged};
 ghost use Rattle.rules.specs.Handler.{is_spread};
 ghost use Rattle.output.specs.Lists.{AnyOf, Counts, Lists, Spanned};
 
-use fields::record::kind;
+use fields::Kind;
 use readings::Trees;
 
 fn trees_between(s: &[u8], at: usize, end: usize) -> Trees<'_>
@@ -31,5 +31,5 @@ pub fn any_spread(s: &[u8], at: usize, end: usize) -> bool
     requires { Spanned s.now at end }
     ensures { AnyOf s.now at end is_spread result }
 {
-    trees_between(s, at, end).any(|tree| tree.record.kind() == kind::SPREAD)
+    trees_between(s, at, end).any(|tree| tree.is_kind(Kind::Spread))
 }

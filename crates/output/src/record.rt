@@ -3,6 +3,7 @@ ghost use Rattle.std.specs.Prelude.{◌≡◌, ◌+◌, ◌<◌, ◌≤◌, [], 
 ghost use Rattle.tree.specs.Offset as offset;
 ghost use Rattle.tree.specs.Layout.{version_by, version_in, width};
 ghost use Rattle.tree.specs.Room.{records_in};
+ghost use Rattle.fields.specs.Kind.{number_of};
 ghost use Rattle.fields.specs.Place.{as_place, said_in};
 ghost use Rattle.fields.specs.Record.{head};
 ghost use Rattle.readings.specs.View.{left, tree};
@@ -12,13 +13,13 @@ ghost use Rattle.output.specs.Records.{MovedRecords, Recorded};
 ghost use Rattle.output.specs.Given.{GivenTree, GivenTrees};
 ghost use Rattle.output.specs.Trees.{Wrote};
 
-use fields::{Place, Record, offset};
+use fields::{Kind, Place, Record, offset};
 use readings::{Node, Trees};
 
 // What a made record says beside its counts.
 #[derive(Drop)]
 pub struct MadeHead {
-    pub kind: u8,
+    pub kind: Kind,
     pub sub: u8,
     pub facts: u8,
     pub place: Place,
@@ -96,11 +97,11 @@ fn patch(part: &mut [u8], counts: Counts)
 }
 
 // Record pos of out becomes this record, but with these counts: the part that starts there is lent.
-pub fn keep_at(record: Record, out: &mut [u8], pos: usize, counts: Counts)
-    requires { (pos + 1 ≤ records_in out.old) × (version_in out.old ≡ version_in «record».src.now) }
-    ensures { Recorded out.old out.new pos (head record.entry) counts.children counts.records }
+pub fn keep_at(kept: Record, out: &mut [u8], pos: usize, counts: Counts)
+    requires { (pos + 1 ≤ records_in out.old) × (version_in out.old ≡ version_in kept.src.now) }
+    ensures { Recorded out.old out.new pos (head kept.entry) counts.children counts.records }
 {
-    copy_records(record.src, record.at, 1, out, pos);
+    copy_records(kept.src, kept.at, 1, out, pos);
     let p = fields::start_of(out, pos);
     patch(&mut out[p..], counts);
 }
@@ -120,9 +121,9 @@ fn put_place(part: &mut [u8], ends: bool, place: Place)
 // The record that part starts with is made anew.
 fn make(part: &mut [u8], ends: bool, head: MadeHead, counts: Counts)
     requires { (offset.end ≤ length part.old) × (width (version_by ends) ≤ length part.old) }
-    ensures { Made (version_by ends) part.old part.new head.kind head.sub head.facts (as_place head.place) counts.children counts.records }
+    ensures { Made (version_by ends) part.old part.new (number_of head.kind) head.sub head.facts (as_place head.place) counts.children counts.records }
 {
-    part[offset::KIND] = head.kind;
+    part[offset::KIND] = u8::from(head.kind);
     part[offset::FACTS] = head.facts;
     part[offset::SUB] = head.sub;
     part[offset::RESERVED] = 0;
@@ -136,7 +137,7 @@ fn make(part: &mut [u8], ends: bool, head: MadeHead, counts: Counts)
 #[tactic(auto, using(crate::specs::Parts::part_wide))]
 pub fn make_at(out: &mut [u8], pos: usize, head: MadeHead, counts: Counts)
     requires { pos + 1 ≤ records_in out.old }
-    ensures { Recorded out.old out.new pos (made_head head.kind head.sub head.facts (said_in out.old head.place)) counts.children counts.records }
+    ensures { Recorded out.old out.new pos (made_head (number_of head.kind) head.sub head.facts (said_in out.old head.place)) counts.children counts.records }
 {
     let p = fields::start_of(out, pos);
     let ends = fields::has_ends(out);

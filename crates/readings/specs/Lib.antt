@@ -1,4 +1,5 @@
 pub mod At
+pub mod Root
 pub mod View
 pub mod Yields
 pub mod Given

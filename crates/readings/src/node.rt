@@ -31,7 +31,7 @@ impl<'a> Node<'a> {
     pub fn is_kind(self, kind: Kind) -> bool
         ensures { result ≡ is_kind (number_of kind) (tree self.entry) }
     {
-        self.record.kind() == kind as u8
+        self.record.is_kind(kind)
     }
 
     // How many records it takes.

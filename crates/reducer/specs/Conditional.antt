@@ -3,7 +3,6 @@ use Rattle.std.specs.Prelude.{◌≡◌, refl, List, [], ◌∷◌, ℕ, ◌+◌
 use Rattle.std.proofs.Common.{ap, sym, ◌∙◌, append-nil, arith}
 use Rattle.tree.specs.Tree.{Tree, All, trees, records, size, forest, forest_trees}
 use Rattle.tree.specs.Layout.{version_in}
-use Rattle.tree.specs.Room.{records_in}
 use Rattle.rules.specs.Settings.{Settings}
 use Rattle.rules.specs.Conditional as conditional
 use Rattle.rules.specs.Reduce.{reduce, join_arms}
@@ -26,9 +25,7 @@ pub record GivenConditional (u : Node) (depth : ℕ) (st : Settings) (out : List
 -- Its test and its arms: three children, of the same bytes.
 pub record Arms (u test first second : Node) : Type 0 where
   pub kids : trees (tree u).kids ≡ tree test ∷ tree first ∷ tree second ∷ []
-  pub test_source : test.record.src.now ≡ u.record.src.now
-  pub first_source : first.record.src.now ≡ u.record.src.now
-  pub second_source : second.record.src.now ≡ u.record.src.now
+  pub source : (test.record.src.now ≡ u.record.src.now) × (first.record.src.now ≡ u.record.src.now) × (second.record.src.now ≡ u.record.src.now)
 
 module _ {u test first second : Node} (a : Arms u test first second) where
   pub arms_size : 1 + size (tree test) + size (tree first) + size (tree second) ≡ size (tree u)
@@ -42,7 +39,7 @@ module _ {u test first second : Node} (a : Arms u test first second) where
     joined = g.handles.is ∙ rw (a.kids, append-nil (reduce st (tree test)), append-nil (reduce st (tree first)), append-nil (reduce st (tree second)))
 
     pub first_given : GivenTree first (depth - 1) old (pos + 1 + size (tree test))
-    first_given = record { listable = three.1.0; same = g.given.same ∙ ap version_in (sym a.first_source); fits = omega (arith, g.given.fits, arms_size); small = omega (arith, g.given.small, arms_size) }
+    first_given = record { listable = three.1.0; same = g.given.same ∙ ap version_in (sym a.source.1); fits = omega (arith, g.given.fits, arms_size); small = omega (arith, g.given.small, arms_size) }
 
     module _ {mid : List ℕ} {middle : ℕ} (x : Wrote old mid (pos + 1 + size (tree test)) middle (reduce st (tree first))) where
       first_few : middle + 1 ≤ pos + 1 + size (tree test) + 2 * size (tree first)
@@ -51,7 +48,7 @@ module _ {u test first second : Node} (a : Arms u test first second) where
       pub second_given : GivenTree second (depth - 1) mid middle
       second_given = record {
         listable = three.1.1.0;
-        same = x.frame.same ∙ g.given.same ∙ ap version_in (sym a.second_source);
+        same = x.frame.same ∙ g.given.same ∙ ap version_in (sym a.source.2);
         fits = omega (arith, x.frame.room, g.given.fits, arms_size, first_few);
         small = omega (arith, g.given.small, arms_size);
       }
@@ -70,7 +67,7 @@ module _ {u test first second : Node} (a : Arms u test first second) where
         pub test_given : GivenTree test (depth - 1) mid' pos
         test_given = record {
           listable = three.0;
-          same = frame.same ∙ g.given.same ∙ ap version_in (sym a.test_source);
+          same = frame.same ∙ g.given.same ∙ ap version_in (sym a.source.0);
           fits = omega (arith, frame.room, g.given.fits, arms_size);
           small = omega (arith, g.given.small, arms_size);
         }

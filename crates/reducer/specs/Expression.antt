@@ -8,6 +8,7 @@ use Rattle.rules.specs.Settings.{Settings}
 use Rattle.rules.specs.Made.{place_of, make_template, make_object}
 use Rattle.rules.specs.Reduce.{reduce, flush, none_one_several, fold_arguments_into_needed_expressions}
 use Rattle.rules.specs.Results.{reduced}
+use Rattle.readings.specs.Given.{given}
 use Rattle.readings.specs.View.{left, tree}
 use Rattle.readings.specs.declared.node.Node.{Node}
 use Rattle.readings.specs.declared.node.Trees.{Trees}
@@ -24,8 +25,10 @@ use Rattle.output.specs.Trees.{Wrote, wrote_none, wrote_over, wrote_as}
 use Rattle.output.specs.Given as whole
 use Rattle.output.specs.Given.{trees_size}
 use Rattle.classes.specs.Class.{GivenClass}
-use Rattle.rewrite.specs.Waiting.{waits_none}
+use Rattle.rewrite.specs.declared.waiting.Waiting.{Waiting}
+use Rattle.rewrite.specs.Waiting.{none_at, waits_none}
 use Rattle.rewrite.specs.Becomes.{GivenList, Becomes}
+use Rattle.reducer.specs.declared.expression.Reduction.{Reduction}
 use Rattle.reducer.specs.declared.walk.Part.{Part}
 use Rattle.reducer.specs.declared.walk.Part.TheVariants.{InOrder, Argument, Template, Object}
 use Rattle.reducer.specs.Walked.{Progress, part_under, walked}
@@ -38,11 +41,11 @@ use Rattle.reducer.specs.Given.{GivenTree, GivenChildren, ReducedChildren}
 pub as_outcome : {depth : ℕ} {st : Settings} {t : Tree} {o : Outcome} (q : Outcome) → Listable depth t → o ≡ choice st t → o ≡ q → HandledAs st t q
 as_outcome {depth} {st} {t} q l h e = subst (λ (x : Outcome). HandledAs st t x) (sym h ∙ e) (choice_handled st t (node_ok_of l))
 
--- A walk in which none waited at first and none waits at the end: what it settled was written up to next.
-settled_all : {old new : List ℕ} {pos slot next : ℕ} {q : Progress} (ts : List Tree) → q ≡ record { done = ts; waiting = [] } → Stepped old new pos slot next q → Wrote old new pos next ts
-settled_all {old} {new} {pos} {slot} {next} {q} ts e d =
-    let x : Stepped old new pos slot next (record { done = ts; waiting = [] }) = subst (λ (y : Progress). Stepped old new pos slot next y) e d in
-    let z : slot ≡ next = omega (arith, x.waiting.ends) in
+-- A walk in which none waited at first and none waits at the end: what it settled was written.
+settled_all : {old new : List ℕ} {pos : ℕ} {at : Waiting} {q : Progress} (ts : List Tree) → q ≡ record { done = ts; waiting = [] } → Stepped old new pos at q → Wrote old new pos at.next ts
+settled_all {old} {new} {pos} {at} {q} ts e d =
+    let x : Stepped old new pos at (record { done = ts; waiting = [] }) = subst (λ (y : Progress). Stepped old new pos at y) e d in
+    let z : at.slot ≡ at.next = omega (arith, x.waiting.ends) in
     rw z at x.done
 
 -- The room for a copy, and for what is left of the children behind a free record or with none.
@@ -80,25 +83,25 @@ module _ {st : Settings} {t : Tree} where
   outcome_done o h w = wrote_as w (sym h.is)
 
 -- What is left of a list of children, none of which waits.
-module _ {st : Settings} {ts : List Tree} {old mid : List ℕ} {pos slot next : ℕ} where
-  pub walked_stepped : (part : Part) → ReducedChildren ts st part old mid pos pos slot next → Stepped old mid pos slot next (walked part st [] ts)
-  walked_stepped part a = a.by [] (waits_none old pos)
+module _ {ts : List Tree} {old mid : Reduction} {pos : ℕ} {at : Waiting} where
+  pub walked_stepped : (part : Part) → ReducedChildren ts part old mid (none_at pos) at → Stepped old.out.now mid.out.now pos at (walked part (given old.settings) [] ts)
+  walked_stepped part a = a.by [] (waits_none old.out.now pos)
 
-  pub in_order_wrote : ReducedChildren ts st InOrder old mid pos pos slot next → Wrote old mid pos next (concat_map (reduce st) ts)
-  in_order_wrote a = settled_all (concat_map (reduce st) ts) (in_order_walked st ts) (walked_stepped InOrder a)
+  pub in_order_wrote : ReducedChildren ts InOrder old mid (none_at pos) at → Wrote old.out.now mid.out.now pos at.next (concat_map (reduce (given old.settings)) ts)
+  in_order_wrote a = settled_all (concat_map (reduce (given old.settings)) ts) (in_order_walked (given old.settings) ts) (walked_stepped InOrder a)
 
-  pub arguments_wrote : ReducedChildren ts st Argument old mid pos pos slot next → Wrote old mid pos next (fold_arguments_into_needed_expressions (map (reduced st) ts))
-  arguments_wrote a = settled_all (fold_arguments_into_needed_expressions (map (reduced st) ts)) (arguments_walked st ts) (walked_stepped Argument a)
+  pub arguments_wrote : ReducedChildren ts Argument old mid (none_at pos) at → Wrote old.out.now mid.out.now pos at.next (fold_arguments_into_needed_expressions (map (reduced (given old.settings)) ts))
+  arguments_wrote a = settled_all (fold_arguments_into_needed_expressions (map (reduced (given old.settings)) ts)) (arguments_walked (given old.settings) ts) (walked_stepped Argument a)
 
 -- Children of which some may wait, behind the free record at pos.
-module _ (u : Node) {st : Settings} {old mid : List ℕ} {pos slot next : ℕ} where
-  pub walked_given : (part : Part) {depth : ℕ} → GivenTree u depth old pos → ReducedChildren (trees (tree u).kids) st part old mid (pos + 1) (pos + 1) slot next → GivenWalked u mid pos slot next
+module _ (u : Node) {old mid : Reduction} {pos : ℕ} {at : Waiting} where
+  pub walked_given : (part : Part) {depth : ℕ} → GivenTree u depth old.out.now pos → ReducedChildren (trees (tree u).kids) part old mid (none_at (pos + 1)) at → GivenWalked u mid.out.now pos at
   walked_given part g a =
       let d = walked_stepped part a in
       let k = ap records (forest_trees (tree u).kids) in
       record {
         same = d.done.frame.same ∙ g.same;
-        progress = walked part st [] (trees (tree u).kids);
+        progress = walked part (given old.settings) [] (trees (tree u).kids);
         settled = d.done.spans;
         waits = d.waiting;
         inside = omega (arith, d.done.frame.room, g.fits, a.few, k);
@@ -106,36 +109,35 @@ module _ (u : Node) {st : Settings} {old mid : List ℕ} {pos slot next : ℕ} w
       }
 
   closes_done : (part : Part) (o : Rewrite) (make : Place → List Tree → Tree)
-      → none_one_several (place_of (tree u)) ((walked part st [] (trees (tree u).kids)).done ++ flush make (place_of (tree u)) (walked part st [] (trees (tree u).kids)).waiting) ≡ rewritten o st (tree u)
-      → HandledAs st (tree u) (Rewritten o) → ReducedChildren (trees (tree u).kids) st part old mid (pos + 1) (pos + 1) slot next
-      → {new : List ℕ} {r : ℕ} → Closes make (tree u) mid new pos slot next r → Wrote old new pos r (reduce st (tree u))
+      → none_one_several (place_of (tree u)) ((walked part (given old.settings) [] (trees (tree u).kids)).done ++ flush make (place_of (tree u)) (walked part (given old.settings) [] (trees (tree u).kids)).waiting) ≡ rewritten o (given old.settings) (tree u)
+      → HandledAs (given old.settings) (tree u) (Rewritten o) → ReducedChildren (trees (tree u).kids) part old mid (none_at (pos + 1)) at
+      → {new : List ℕ} {r : ℕ} → Closes make (tree u) mid.out.now new pos at r → Wrote old.out.now new pos r (reduce (given old.settings) (tree u))
   closes_done part o make e h a b =
       let d = walked_stepped part a in
-      wrote_as (wrote_over d.done (omega arith) (b.by (walked part st [] (trees (tree u).kids)) d.done.spans d.waiting)) (e ∙ sym h.is)
+      wrote_as (wrote_over d.done (omega arith) (b.by (walked part (given old.settings) [] (trees (tree u).kids)) d.done.spans d.waiting)) (e ∙ sym h.is)
 
-  pub template_done : HandledAs st (tree u) (Rewritten rewrites.Template) → ReducedChildren (trees (tree u).kids) st Template old mid (pos + 1) (pos + 1) slot next
-      → {new : List ℕ} {r : ℕ} → Closes make_template (tree u) mid new pos slot next r → Wrote old new pos r (reduce st (tree u))
-  template_done = closes_done Template rewrites.Template make_template (ap (none_one_several (place_of (tree u))) (sym (template_walked st (place_of (tree u)) [] (trees (tree u).kids))))
+  pub template_done : HandledAs (given old.settings) (tree u) (Rewritten rewrites.Template) → ReducedChildren (trees (tree u).kids) Template old mid (none_at (pos + 1)) at
+      → {new : List ℕ} {r : ℕ} → Closes make_template (tree u) mid.out.now new pos at r → Wrote old.out.now new pos r (reduce (given old.settings) (tree u))
+  template_done = closes_done Template rewrites.Template make_template (ap (none_one_several (place_of (tree u))) (sym (template_walked (given old.settings) (place_of (tree u)) [] (trees (tree u).kids))))
 
-  pub object_done : HandledAs st (tree u) (Rewritten rewrites.Object) → ReducedChildren (trees (tree u).kids) st Object old mid (pos + 1) (pos + 1) slot next
-      → {new : List ℕ} {r : ℕ} → Closes make_object (tree u) mid new pos slot next r → Wrote old new pos r (reduce st (tree u))
-  object_done = closes_done Object rewrites.Object make_object (ap (none_one_several (place_of (tree u))) (sym (object_walked st (place_of (tree u)) [] (trees (tree u).kids))))
+  pub object_done : HandledAs (given old.settings) (tree u) (Rewritten rewrites.Object) → ReducedChildren (trees (tree u).kids) Object old mid (none_at (pos + 1)) at
+      → {new : List ℕ} {r : ℕ} → Closes make_object (tree u) mid.out.now new pos at r → Wrote old.out.now new pos r (reduce (given old.settings) (tree u))
+  object_done = closes_done Object rewrites.Object make_object (ap (none_one_several (place_of (tree u))) (sym (object_walked (given old.settings) (place_of (tree u)) [] (trees (tree u).kids))))
 
 -- A class: room for what it gives up.
 pub class_given : {u : Node} {depth : ℕ} {old : List ℕ} {pos : ℕ} → GivenTree u depth old pos → GivenClass u old pos
 class_given g = record { same = g.same; fits = omega (arith, g.fits); small = omega (arith, g.small) }
 
 -- The walk over the children as the rewrite that the match found asks for it.
-pub walked_as : {made : Rewrite} {part : Part} (r : Rewrite) → part ≡ part_under made → made ≡ r → {ts : List Tree} {st : Settings} {old new : List ℕ} {slot next slot' next' : ℕ}
-    → ReducedChildren ts st part old new slot next slot' next' → ReducedChildren ts st (part_under r) old new slot next slot' next'
-walked_as {part = part} r p e {ts} {st} {old} {new} {slot} {next} {slot'} {next'} a = subst (λ (x : Part). ReducedChildren ts st x old new slot next slot' next') (p ∙ ap part_under e) a
+pub walked_as : {made : Rewrite} {part : Part} (r : Rewrite) → part ≡ part_under made → made ≡ r → {ts : List Tree} {old new : Reduction} {at at' : Waiting} → ReducedChildren ts part old new at at' → ReducedChildren ts (part_under r) old new at at'
+walked_as {part = part} r p e {ts} {old} {new} {at} {at'} a = subst (λ (x : Part). ReducedChildren ts x old new at at') (p ∙ ap part_under e) a
 
 pub as_made : {st : Settings} {t : Tree} {made : Rewrite} (r : Rewrite) → made ≡ r → HandledAs st t (Rewritten made) → HandledAs st t (Rewritten r)
 as_made {st} {t} r e h = subst (λ (x : Rewrite). HandledAs st t (Rewritten x)) e h
 
 -- What is left of all of a node's children takes at most twice the records.
-pub kids_few : (u : Node) {ts : List Tree} {st : Settings} {part : Part} {old new : List ℕ} {pos slot next : ℕ} → ts ≡ trees (tree u).kids → ReducedChildren ts st part old new pos pos slot next
-    → next + 2 ≤ pos + 2 * size (tree u)
+pub kids_few : (u : Node) {ts : List Tree} {part : Part} {old new : Reduction} {pos : ℕ} {at : Waiting} → ts ≡ trees (tree u).kids → ReducedChildren ts part old new (none_at pos) at
+    → at.next + 2 ≤ pos + 2 * size (tree u)
 kids_few u e a = omega (arith, a.few, ap (λ (l : List Tree). records (forest l)) e, ap records (forest_trees (tree u).kids))
 
 -- The children behind the first one take no more than all.

@@ -1,5 +1,5 @@
 -- Trees settled and waiting, as they stand in the output.
-use Rattle.std.specs.Prelude.{◌≡◌, refl, Bool, false, List, [], ◌∷◌, ℕ, ◌+◌, ◌<◌, ◌≤◌}
+use Rattle.std.specs.Prelude.{◌≡◌, List, [], ◌∷◌, ℕ, ◌+◌, ◌<◌, ◌≤◌}
 use Rattle.std.proofs.Common.{sym, ap, subst, ◌∙◌, arith}
 use Rattle.tree.specs.Tree.{Place, Head, Tree}
 use Rattle.tree.specs.Layout.{version_in}
@@ -10,87 +10,88 @@ use Rattle.rules.specs.Made.{place_of, make_template, make_object}
 use Rattle.rules.specs.Reduce.{flush}
 use Rattle.output.specs.Records.{before_all}
 use Rattle.output.specs.Trees.{Spans, Wrote, wrote_none, spans_append, spans_kept}
-use Rattle.rewrite.specs.Waiting.{Waits, GivenWaiting, Flushed, waits_none}
+use Rattle.rewrite.specs.declared.waiting.Waiting.{Waiting}
+use Rattle.rewrite.specs.Waiting.{Waits, GivenWaiting, Flushed, none_at, waits_none}
 use Rattle.reducer.specs.declared.walk.Part.{Part}
 use Rattle.reducer.specs.declared.walk.Part.TheVariants.{InOrder, Argument, Template, Object}
 use Rattle.reducer.specs.Walked.{Progress, settled_kept, settled}
 
--- From record slot on the settled trees were written, up to slot', and behind them stand those that wait, up to next'.
-pub record Stepped (old new : List ℕ) (slot slot' next' : ℕ) (q : Progress) : Type 0 where
-  pub done : Wrote old new slot slot' q.done
-  pub waiting : Waits new slot' next' q.waiting
+-- From record pos on the settled trees were written, and behind them stand those that wait.
+pub record Stepped (old new : List ℕ) (pos : ℕ) (at : Waiting) (q : Progress) : Type 0 where
+  pub done : Wrote old new pos at.slot q.done
+  pub waiting : Waits new at q.waiting
 
-pub record GivenSettled (out : List ℕ) (slot next end : ℕ) : Type 0 where
+pub record GivenSettled (out : List ℕ) (at : Waiting) (end : ℕ) : Type 0 where
   pub wait : List Tree
-  pub waits : Waits out slot next wait
+  pub waits : Waits out at wait
   pub left : List Tree
-  pub spans : Spans out next end left
+  pub spans : Spans out at.next end left
   pub inside : end ≤ records_in out
-  pub small : next < slot + 65536
+  pub small : at.next < at.slot + 65536
 
--- Whatever waited, and whatever trees stand from record next to record end.
-pub record SettlesKept (old new : List ℕ) (slot next end slot' next' : ℕ) : Type 0 where
-  pub by : (w : List Tree) → Waits old slot next w → (r : List Tree) → Spans old next end r → Stepped old new slot slot' next' (settled_kept w r)
-  pub few : next' ≤ end
+-- Whatever waited, and whatever trees stand behind it, to record end.
+pub record SettlesKept (old new : List ℕ) (at : Waiting) (end : ℕ) (at' : Waiting) : Type 0 where
+  pub by : (w : List Tree) → Waits old at w → (r : List Tree) → Spans old at.next end r → Stepped old new at.slot at' (settled_kept w r)
+  pub few : at'.next ≤ end
 
-pub record GivenSettle (u : Node) (out : List ℕ) (slot next end : ℕ) : Type 0 where
+pub record GivenSettle (u : Node) (out : List ℕ) (at : Waiting) (end : ℕ) : Type 0 where
   pub same : version_in out ≡ version_in u.record.src.now
-  pub list : GivenSettled out slot next end
+  pub list : GivenSettled out at end
 
-pub record Settles (t : Tree) (part : Part) (old new : List ℕ) (slot next end slot' next' : ℕ) : Type 0 where
-  pub by : (w : List Tree) → Waits old slot next w → (r : List Tree) → Spans old next end r → Stepped old new slot slot' next' (settled part t w r)
-  pub few : next' ≤ end
+pub record Settles (t : Tree) (part : Part) (old new : List ℕ) (at : Waiting) (end : ℕ) (at' : Waiting) : Type 0 where
+  pub by : (w : List Tree) → Waits old at w → (r : List Tree) → Spans old at.next end r → Stepped old new at.slot at' (settled part t w r)
+  pub few : at'.next ≤ end
 
-pub settled_waiting : {out : List ℕ} {slot next end : ℕ} → GivenSettled out slot next end → GivenWaiting out slot next
+pub settled_waiting : {out : List ℕ} {at : Waiting} {end : ℕ} → GivenSettled out at end → GivenWaiting out at
 settled_waiting g = record { list = g.wait; waits = g.waits; inside = omega (arith, g.inside, g.spans.ends); small = g.small }
 
-pub settled_inside : {out : List ℕ} {slot next end : ℕ} → GivenSettled out slot next end → (end ≡ next → ⊥) → next + 1 ≤ records_in out
+pub settled_inside : {out : List ℕ} {at : Waiting} {end : ℕ} → GivenSettled out at end → (end ≡ at.next → ⊥) → at.next + 1 ≤ records_in out
 settled_inside g n = omega (arith, g.inside, g.spans.ends, n)
 
-module _ {old : List ℕ} {slot next end : ℕ} where
+module _ {old : List ℕ} {at : Waiting} {end : ℕ} where
   -- Nothing is left of the child.
-  pub settled_gone : end ≡ next → SettlesKept old old slot next end slot next
+  pub settled_gone : end ≡ at.next → SettlesKept old old at end at
   settled_gone e = record { by = λ w x r d. go w x r d; few = omega arith }
     where
-      go : (w : List Tree) → Waits old slot next w → (r : List Tree) → Spans old next end r → Stepped old old slot slot next (settled_kept w r)
-      go w x [] d = record { done = wrote_none (before_all old slot); waiting = x }
+      go : (w : List Tree) → Waits old at w → (r : List Tree) → Spans old at.next end r → Stepped old old at.slot at (settled_kept w r)
+      go w x [] d = record { done = wrote_none (before_all old at.slot); waiting = x }
       go w x (t ∷ r) d = absurd (omega (arith, d.ends))
 
   -- What waited is made, and the trees behind it are settled.
-  pub settled_left : {new : List ℕ} {place : Place} → (end ≡ next → ⊥) → place ≡ (head_at old next).place → Flushed make_template old new slot next place → SettlesKept old new slot next end end end
+  pub settled_left : {new : List ℕ} {place : Place} → (end ≡ at.next → ⊥) → place ≡ (head_at old at.next).place → Flushed make_template old new at place → SettlesKept old new at end (none_at end)
   settled_left {new} {place} n ep f = record { by = λ w x r d. go w x r d; few = omega arith }
     where
-      go : (w : List Tree) → Waits old slot next w → (r : List Tree) → Spans old next end r → Stepped old new slot end end (settled_kept w r)
+      go : (w : List Tree) → Waits old at w → (r : List Tree) → Spans old at.next end r → Stepped old new at.slot (none_at end) (settled_kept w r)
       go w x [] d = absurd (n (omega (arith, d.ends)))
       go w x (t ∷ r) d =
           let p : place ≡ t.head.place = ep ∙ ap (λ (h : Head). h.place) d.stands.0 in
-          let y : Wrote old new slot next (flush make_template (place_of t) w) = subst (λ (q : Place). Wrote old new slot next (flush make_template q w)) p (f.by w x) in
+          let y : Wrote old new at.slot at.next (flush make_template (place_of t) w) = subst (λ (q : Place). Wrote old new at.slot at.next (flush make_template q w)) p (f.by w x) in
           record {
             done = record { spans = spans_append (flush make_template (place_of t) w) (t ∷ r) y.spans (spans_kept d f.above (omega arith)); frame = y.frame };
             waiting = waits_none new end;
           }
 
-module _ {t : Tree} {old : List ℕ} {slot next end : ℕ} where
-  pub settled_object : {new : List ℕ} {place : Place} → GivenSettled old slot next end → place ≡ t.head.place → Flushed make_object old new slot next place → Settles t Object old new slot next end end end
+module _ {t : Tree} {old : List ℕ} {at : Waiting} {end : ℕ} where
+  pub settled_object : {new : List ℕ} {place : Place} → GivenSettled old at end → place ≡ t.head.place → Flushed make_object old new at place → Settles t Object old new at end (none_at end)
   settled_object {new} {place} g ep f = record { by = go; few = omega arith }
     where
-      go : (w : List Tree) → Waits old slot next w → (r : List Tree) → Spans old next end r → Stepped old new slot end end (settled Object t w r)
+      go : (w : List Tree) → Waits old at w → (r : List Tree) → Spans old at.next end r → Stepped old new at.slot (none_at end) (settled Object t w r)
       go w x r d =
-          let y : Wrote old new slot next (flush make_object (place_of t) w) = subst (λ (q : Place). Wrote old new slot next (flush make_object q w)) ep (f.by w x) in
+          let y : Wrote old new at.slot at.next (flush make_object (place_of t) w) = subst (λ (q : Place). Wrote old new at.slot at.next (flush make_object q w)) ep (f.by w x) in
           record {
             done = record { spans = spans_append (flush make_object (place_of t) w) r y.spans (spans_kept d f.above (omega arith)); frame = y.frame };
             waiting = waits_none new end;
           }
 
-  module _ {new : List ℕ} {slot' next' : ℕ} (k : SettlesKept old new slot next end slot' next') where
-    pub settled_in_order : Settles t InOrder old new slot next end slot' next'
+  module _ {new : List ℕ} {at' : Waiting} (k : SettlesKept old new at end at') where
+    pub settled_in_order : Settles t InOrder old new at end at'
     settled_in_order = record { by = k.by; few = k.few }
 
-    pub settled_argument : Settles t Argument old new slot next end slot' next'
+    pub settled_argument : Settles t Argument old new at end at'
     settled_argument = record { by = k.by; few = k.few }
 
-    pub settled_template : Settles t Template old new slot next end slot' next'
+    pub settled_template : Settles t Template old new at end at'
     settled_template = record { by = k.by; few = k.few }
 
-  pub settles_as : {new : List ℕ} {slot' next' : ℕ} (part : Part) {q : Part} → part ≡ q → Settles t q old new slot next end slot' next' → Settles t part old new slot next end slot' next'
-  settles_as {new} {slot'} {next'} part e w = subst (λ (x : Part). Settles t x old new slot next end slot' next') (sym e) w
+  pub settles_as : {new : List ℕ} {at' : Waiting} (part : Part) {q : Part} → part ≡ q → Settles t q old new at end at' → Settles t part old new at end at'
+  settles_as {new} {at'} part e w = subst (λ (x : Part). Settles t x old new at end at') (sym e) w

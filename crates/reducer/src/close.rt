@@ -4,19 +4,20 @@ ghost use Rattle.readings.specs.View.{tree};
 ghost use Rattle.reducer.specs.Close.{GivenWalked, Closes};
 
 use readings::Node;
+use rewrite::Waiting;
 
-pub fn close_template(node: Node, out: &mut [u8], pos: usize, slot: usize, end: usize) -> usize
-    requires { GivenWalked node out.old pos slot end }
-    ensures { Closes make_template (tree node.entry) out.old out.new pos slot end result }
+pub fn close_template(node: Node, out: &mut [u8], pos: usize, waiting: Waiting) -> usize
+    requires { GivenWalked node out.old pos waiting }
+    ensures { Closes make_template (tree node.entry) out.old out.new pos waiting result }
 {
-    rewrite::flush_template(out, slot, end, node.record.place());
-    rewrite::none_one_several(node, out, pos, end)
+    rewrite::flush_template(out, waiting, node.record.place());
+    rewrite::none_one_several(node, out, pos, waiting.next)
 }
 
-pub fn close_object(node: Node, out: &mut [u8], pos: usize, slot: usize, end: usize) -> usize
-    requires { GivenWalked node out.old pos slot end }
-    ensures { Closes make_object (tree node.entry) out.old out.new pos slot end result }
+pub fn close_object(node: Node, out: &mut [u8], pos: usize, waiting: Waiting) -> usize
+    requires { GivenWalked node out.old pos waiting }
+    ensures { Closes make_object (tree node.entry) out.old out.new pos waiting result }
 {
-    rewrite::flush_object(out, slot, end, node.record.place());
-    rewrite::none_one_several(node, out, pos, end)
+    rewrite::flush_object(out, waiting, node.record.place());
+    rewrite::none_one_several(node, out, pos, waiting.next)
 }

@@ -11,6 +11,7 @@ ghost use Rattle.tree.specs.Layout.{version_in};
 ghost use Rattle.reducer.specs.Answer.{least_output, most_output, Answers};
 ghost use Rattle.reducer.specs.Run.{GivenFile};
 
+use crate::expression::Reduction;
 use fields::Record;
 use file::{Accepted, Limits};
 use readings::{Node, Settings};
@@ -68,7 +69,11 @@ fn reduce_in(src: &[u8], header: Accepted, work: &mut [u8], out: &mut [u8]) -> O
         yes: &[],
     };
     let depth = Limits::REDUCE.depth;
-    let end = expression::remove_unused_expression(Node { record }, depth, settings, work, 0);
+    let mut reduction = Reduction {
+        settings,
+        out: work,
+    };
+    let end = reduction.remove_unused_expression(Node { record }, depth, 0);
     if end == 0 {
         return None;
     }

@@ -7,6 +7,7 @@ ghost use Rattle.reducer.specs.Settled.{GivenSettled, SettlesKept, GivenSettle, 
 use fields::{Kind, Record};
 use handlers::outcome::Rewrite;
 use readings::Node;
+use rewrite::Waiting;
 
 // What a child is to its parent.
 #[derive(Clone, Copy)]
@@ -18,13 +19,6 @@ pub enum Part {
     Template,
     // of an object: a spread waits
     Object,
-}
-
-// Where the trees that are settled end, and where those that wait behind a free record end: next is slot if none wait.
-#[derive(Clone, Copy)]
-pub struct Walked {
-    pub slot: usize,
-    pub next: usize,
 }
 
 // What a node that is rewritten asks of its children.
@@ -54,43 +48,31 @@ pub fn wraps(node: Node, part: Part) -> bool
     matches!(part, Part::Argument) && node.is_kind(Kind::Spread)
 }
 
-// Of another parent than an object. Only in a template any wait; elsewhere slot is next, and nothing is made.
-fn settle_kept(out: &mut [u8], slot: usize, next: usize, end: usize) -> Walked
-    requires { GivenSettled out.old slot next end }
-    ensures { SettlesKept out.old out.new slot next end result.slot result.next }
+// Of another parent than an object. Only in a template any wait; elsewhere nothing is made.
+fn settle_kept(out: &mut [u8], waiting: Waiting, end: usize) -> Waiting
+    requires { GivenSettled out.old waiting end }
+    ensures { SettlesKept out.old out.new waiting end result }
 {
+    let next = waiting.next;
     if end == next {
-        return Walked { slot, next };
+        return waiting;
     }
     let place = Record { src: out, at: next }.place();
-    rewrite::flush_template(out, slot, next, place);
-    Walked {
-        slot: end,
-        next: end,
-    }
+    rewrite::flush_template(out, waiting, place);
+    Waiting::none(end)
 }
 
-// What is left of the child stands from record next to record end: what waits before it waits no more, but goes on waiting in a
+// What is left of the child stands behind what waits, up to record end: what waits before it waits no more, but goes on waiting in a
 // template of whose child nothing is left.
-pub fn settle(
-    node: Node,
-    part: Part,
-    out: &mut [u8],
-    slot: usize,
-    next: usize,
-    end: usize,
-) -> Walked
-    requires { GivenSettle node out.old slot next end }
-    ensures { Settles (tree node.entry) part out.old out.new slot next end result.slot result.next }
+pub fn settle(node: Node, part: Part, out: &mut [u8], waiting: Waiting, end: usize) -> Waiting
+    requires { GivenSettle node out.old waiting end }
+    ensures { Settles (tree node.entry) part out.old out.new waiting end result }
 {
     match part {
-        Part::InOrder | Part::Argument | Part::Template => settle_kept(out, slot, next, end),
+        Part::InOrder | Part::Argument | Part::Template => settle_kept(out, waiting, end),
         Part::Object => {
-            rewrite::flush_object(out, slot, next, node.record.place());
-            Walked {
-                slot: end,
-                next: end,
-            }
+            rewrite::flush_object(out, waiting, node.record.place());
+            Waiting::none(end)
         }
     }
 }

@@ -1,8 +1,7 @@
 -- `join_sequence` over two trees that stand behind a free record.
-use Rattle.std.specs.Prelude.{◌≡◌, List, [], ◌∷◌, ◌++◌, ℕ, suc, ◌+◌, ◌-◌, ◌<◌, ◌≤◌}
+use Rattle.std.specs.Prelude.{◌≡◌, Bool, true, false, eqb, List, [], ◌∷◌, ◌++◌, ℕ, suc, ◌+◌, ◌-◌, ◌<◌, ◌≤◌}
 use Rattle.std.proofs.Common.{sym, subst, ◌∙◌, arith}
 use Rattle.std.proofs.Math.Path.{ap}
-use borrow.Author.Tests.{eq-eqb, ne_eqb}
 use Rattle.tree.specs.Tree.{Place, Head, Forest, Tree, trees, forest, forest_trees, records}
 use Rattle.tree.specs.Layout.{version_in}
 use Rattle.tree.specs.Room.{records_in}
@@ -49,6 +48,10 @@ moved_span {old} {new} {q} {e} {n} {ts} d m l = record {
   ends = omega (arith, d.ends);
 }
 
+-- Whether a side is a sequence, as its record says.
+sequence_at : {g h : Head} {b : Bool} → g ≡ h → eqb g.kind kind.sequence ≡ b → eqb h.kind kind.sequence ≡ b
+sequence_at s e = sym (ap (λ (x : Head). eqb x.kind kind.sequence) s) ∙ e
+
 -- The list that the left side's children make with the right side, once the left side's record is moved over; and the list of the
 -- left side and the right side's children, once the right side's is.
 module _ {old mid : List ℕ} {pos second end : ℕ} (n : ℕ) where
@@ -77,19 +80,19 @@ module _ {old : List ℕ} {pos second end : ℕ} where
       small = omega (arith, g.small);
     }
 
-    pub joins_left : (k : ℕ) → k ≡ (head_at old (pos + 1)).kind → k ≡ kind.sequence → {new : List ℕ} (place : Place) → Makes make_sequence mid new pos (end - 1) (place_in (version_in mid) place)
+    pub joins_left : eqb (head_at old (pos + 1)).kind kind.sequence ≡ true → {new : List ℕ} (place : Place) → Makes make_sequence mid new pos (end - 1) (place_in (version_in mid) place)
         → Joins old new pos second end (place_in (version_in old) place) (end - 1)
     unfolding join_sequence is_kind
-    joins_left k ek e {new} place v = record { by = λ a b d. go a b d }
+    joins_left e {new} place v = record { by = λ a b d. go a b d }
       where
         w : Makes make_sequence mid new pos (end - 1) (place_in (version_in old) place)
         w = rw m.below.same at v
 
         go : (a b : Tree) → Pair old pos second end a b → Wrote old new pos (end - 1) (join_sequence (place_in (version_in old) place) a b ∷ [])
         go a b d =
-            let y : a.head.kind ≡ kind.sequence = sym (ap (λ (h : Head). h.kind) d.left.stands.0) ∙ sym ek ∙ e in
             let x = w.by (trees a.kids ++ (b ∷ [])) (left_list n en m a b d) in
-            wrote_as (record { spans = x.spans; frame = before_trans (before_less pos (omega arith) m.below) x.frame (omega arith) }) (rw (eq-eqb a.head.kind kind.sequence y))
+            wrote_as (record { spans = x.spans; frame = before_trans (before_less pos (omega arith) m.below) x.frame (omega arith) })
+            (rw (sequence_at d.left.stands.0 e))
 
   -- The right side is one, and the left is not.
   module _ {mid : List ℕ} (n : ℕ) (en : n ≡ end - second - 1) (m : MovedRecords old (second + 1) n old mid second) where
@@ -101,22 +104,19 @@ module _ {old : List ℕ} {pos second end : ℕ} where
       small = omega (arith, g.small);
     }
 
-    pub joins_right : (k : ℕ) → k ≡ (head_at old (pos + 1)).kind → (k ≡ kind.sequence → ⊥) → (j : ℕ) → j ≡ (head_at old second).kind → j ≡ kind.sequence
-        → {new : List ℕ} (place : Place) → Makes make_sequence mid new pos (end - 1) (place_in (version_in mid) place)
+    pub joins_right : eqb (head_at old (pos + 1)).kind kind.sequence ≡ false → eqb (head_at old second).kind kind.sequence ≡ true → {new : List ℕ} (place : Place) → Makes make_sequence mid new pos (end - 1) (place_in (version_in mid) place)
         → Joins old new pos second end (place_in (version_in old) place) (end - 1)
     unfolding join_sequence is_kind
-    joins_right k ek nk j ej e {new} place v = record { by = λ a b d. go a b d }
+    joins_right f e {new} place v = record { by = λ a b d. go a b d }
       where
         w : Makes make_sequence mid new pos (end - 1) (place_in (version_in old) place)
         w = rw m.below.same at v
 
         go : (a b : Tree) → Pair old pos second end a b → Wrote old new pos (end - 1) (join_sequence (place_in (version_in old) place) a b ∷ [])
         go a b d =
-            let z : a.head.kind ≡ kind.sequence → ⊥ = λ q. nk (ek ∙ ap (λ (h : Head). h.kind) d.left.stands.0 ∙ q) in
-            let y : b.head.kind ≡ kind.sequence = sym (ap (λ (h : Head). h.kind) d.right.stands.0) ∙ sym ej ∙ e in
             let x = w.by (a ∷ trees b.kids) (right_list n en m a b d) in
             wrote_as (record { spans = x.spans; frame = before_trans (before_less pos (omega (arith, d.left.ends)) m.below) x.frame (omega arith) })
-            (rw (ne_eqb a.head.kind kind.sequence z, eq-eqb b.head.kind kind.sequence y))
+            (rw (sequence_at d.left.stands.0 f, sequence_at d.right.stands.0 e))
 
   pub both_given : GivenPair old pos second end → GivenMade old pos end
   both_given g = record {
@@ -126,17 +126,15 @@ module _ {old : List ℕ} {pos second end : ℕ} where
     small = g.small;
   }
 
-  pub joins_both : (k : ℕ) → k ≡ (head_at old (pos + 1)).kind → (k ≡ kind.sequence → ⊥) → (j : ℕ) → j ≡ (head_at old second).kind → (j ≡ kind.sequence → ⊥)
+  pub joins_both : eqb (head_at old (pos + 1)).kind kind.sequence ≡ false → eqb (head_at old second).kind kind.sequence ≡ false
       → {new : List ℕ} {place : Place} → Makes make_sequence old new pos end place → Joins old new pos second end place end
   unfolding join_sequence is_kind
-  joins_both k ek nk j ej nj {new} {place} w = record { by = λ a b d. go a b d }
+  joins_both f e {new} {place} w = record { by = λ a b d. go a b d }
     where
       go : (a b : Tree) → Pair old pos second end a b → Wrote old new pos end (join_sequence place a b ∷ [])
       go a b d =
-          let z : a.head.kind ≡ kind.sequence → ⊥ = λ q. nk (ek ∙ ap (λ (h : Head). h.kind) d.left.stands.0 ∙ q) in
-          let y : b.head.kind ≡ kind.sequence → ⊥ = λ q. nj (ej ∙ ap (λ (h : Head). h.kind) d.right.stands.0 ∙ q) in
           wrote_as (w.by (a ∷ b ∷ []) (spans_append (a ∷ []) (b ∷ []) d.left d.right))
-          (rw (ne_eqb a.head.kind kind.sequence z, ne_eqb b.head.kind kind.sequence y))
+          (rw (sequence_at d.left.stands.0 f, sequence_at d.right.stands.0 e))
 
 -- A list of two, and the size of a second tree, by the size z of the first.
 module _ {old : List ℕ} (pos : ℕ) {end : ℕ} (z : ℕ) (ez : z ≡ subtree_at old (pos + 1)) where

@@ -14,6 +14,7 @@ use Rattle.rules.specs.Reduce.{flush}
 use Rattle.tree.specs.Kind as kind
 use Rattle.output.specs.Records.{Before, Behind, Recorded, before_all, before_less, behind_more}
 use Rattle.output.specs.Trees.{Spans, Wrote, wrote_none, wrote_as, spans_agree, spans_append, recorded_node}
+use Rattle.rewrite.specs.declared.waiting.Waiting.{Waiting}
 use Rattle.rewrite.specs.Made.{Makes}
 
 -- The records that trees which wait take with the free one before them: none if none wait.
@@ -21,80 +22,83 @@ abbrev pub held_records : List Tree → ℕ
 held_records [] = 0
 held_records (t ∷ w) = suc (records (forest (t ∷ w)))
 
--- The trees w wait behind record slot, up to record next, which is slot if there are none.
-pub record Waits (out : List ℕ) (slot next : ℕ) (w : List Tree) : Type 0 where
-  pub stands : Stands out (slot + 1) (forest w)
-  pub ends : next ≡ slot + held_records w
+-- The trees w wait.
+pub record Waits (out : List ℕ) (at : Waiting) (w : List Tree) : Type 0 where
+  pub stands : Stands out (at.slot + 1) (forest w)
+  pub ends : at.next ≡ at.slot + held_records w
 
-waits_spans : {out : List ℕ} {slot next : ℕ} {t : Tree} {w : List Tree} → Waits out slot next (t ∷ w) → Spans out (slot + 1) next (t ∷ w)
+abbrev pub none_at : ℕ → Waiting
+none_at pos = record { slot = pos; next = pos }
+
+waits_spans : {out : List ℕ} {at : Waiting} {t : Tree} {w : List Tree} → Waits out at (t ∷ w) → Spans out (at.slot + 1) at.next (t ∷ w)
 waits_spans x = record { stands = x.stands; ends = omega (arith, x.ends) }
 
-spans_waits : {out : List ℕ} {slot next : ℕ} (w : List Tree) (t : Tree) → Spans out (slot + 1) next (w ++ (t ∷ [])) → Waits out slot next (w ++ (t ∷ []))
+spans_waits : {out : List ℕ} {at : Waiting} (w : List Tree) (t : Tree) → Spans out (at.slot + 1) at.next (w ++ (t ∷ [])) → Waits out at (w ++ (t ∷ []))
 spans_waits [] t d = record { stands = d.stands; ends = omega (arith, d.ends) }
 spans_waits (u ∷ w) t d = record { stands = d.stands; ends = omega (arith, d.ends) }
 
-pub waits_none : (out : List ℕ) (slot : ℕ) → Waits out slot slot []
-waits_none out slot = record { stands = tt; ends = omega arith }
+pub waits_none : (out : List ℕ) (pos : ℕ) → Waits out (none_at pos) []
+waits_none out pos = record { stands = tt; ends = omega arith }
 
 -- Where those that wait start, and what is written behind them leaves them.
-pub waits_after : {out : List ℕ} {slot next : ℕ} {w : List Tree} → Waits out slot next w → slot ≤ next
+pub waits_after : {out : List ℕ} {at : Waiting} {w : List Tree} → Waits out at w → at.slot ≤ at.next
 waits_after x = omega (arith, x.ends)
 
-pub waits_agree : {old new : List ℕ} {slot next : ℕ} {w : List Tree} → Waits old slot next w → Before old new next → Waits new slot next w
-waits_agree {old} {new} {slot} {next} {w} x a = go w x
+pub waits_agree : {old new : List ℕ} {at : Waiting} {w : List Tree} → Waits old at w → Before old new at.next → Waits new at w
+waits_agree {old} {new} {at} {w} x a = go w x
   where
-    go : (w : List Tree) → Waits old slot next w → Waits new slot next w
+    go : (w : List Tree) → Waits old at w → Waits new at w
     go [] x = record { stands = tt; ends = x.ends }
     go (t ∷ w) x = record { stands = (spans_agree (waits_spans x) a (omega arith)).stands; ends = x.ends }
 
-pub record GivenWaiting (out : List ℕ) (slot next : ℕ) : Type 0 where
+pub record GivenWaiting (out : List ℕ) (at : Waiting) : Type 0 where
   pub list : List Tree
-  pub waits : Waits out slot next list
-  pub inside : next ≤ records_in out
-  pub small : next < slot + 65536
+  pub waits : Waits out at list
+  pub inside : at.next ≤ records_in out
+  pub small : at.next < at.slot + 65536
 
--- Whatever trees waited, the tree t waits behind them, to record r.
-pub record Held (t : Tree) (old new : List ℕ) (slot next r : ℕ) : Type 0 where
-  pub by : (w : List Tree) → Waits old slot next w → Waits new slot r (w ++ (t ∷ []))
-  pub frame : Before old new next
-  pub few : r ≤ next + 1 + size t
+-- Whatever trees waited, the tree t waits behind them.
+pub record Held (t : Tree) (old new : List ℕ) (at at' : Waiting) : Type 0 where
+  pub by : (w : List Tree) → Waits old at w → Waits new at' (w ++ (t ∷ []))
+  pub frame : Before old new at.next
+  pub slot : at'.slot ≡ at.slot
+  pub few : at'.next ≤ at.next + 1 + size t
 
 -- Whatever trees waited, the node that is made of them was written; all from record next on is as it was.
-pub record Flushed (make : Place → List Tree → Tree) (old new : List ℕ) (slot next : ℕ) (place : Place) : Type 0 where
-  pub by : (w : List Tree) → Waits old slot next w → Wrote old new slot next (flush make place w)
-  pub above : Behind old new next
+pub record Flushed (make : Place → List Tree → Tree) (old new : List ℕ) (at : Waiting) (place : Place) : Type 0 where
+  pub by : (w : List Tree) → Waits old at w → Wrote old new at.slot at.next (flush make place w)
+  pub above : Behind old new at.next
 
-module _ {t : Tree} {old new : List ℕ} {slot next r : ℕ} where
-  pub hold_first : slot ≡ next → Wrote old new (next + 1) r (t ∷ []) → Held t old new slot next r
-  hold_first e c = record { by = go; frame = before_less next (omega arith) c.frame; few = omega (arith, c.spans.ends) }
+module _ {t : Tree} {old new : List ℕ} {at : Waiting} {r : ℕ} where
+  pub hold_first : at.slot ≡ at.next → Wrote old new (at.next + 1) r (t ∷ []) → Held t old new at (record { slot = at.slot; next = r })
+  hold_first e c = record { by = go; frame = before_less at.next (omega arith) c.frame; slot = refl; few = omega (arith, c.spans.ends) }
     where
-      go : (w : List Tree) → Waits old slot next w → Waits new slot r (w ++ (t ∷ []))
+      go : (w : List Tree) → Waits old at w → Waits new (record { slot = at.slot; next = r }) (w ++ (t ∷ []))
       go [] x = spans_waits [] t (rw e c.spans)
       go (y ∷ w) x = absurd (omega (arith, x.ends))
 
-  pub hold_more : (slot ≡ next → ⊥) → Wrote old new next r (t ∷ []) → Held t old new slot next r
-  hold_more n c = record { by = go; frame = c.frame; few = omega (arith, c.spans.ends) }
+  pub hold_more : (at.slot ≡ at.next → ⊥) → Wrote old new at.next r (t ∷ []) → Held t old new at (record { slot = at.slot; next = r })
+  hold_more n c = record { by = go; frame = c.frame; slot = refl; few = omega (arith, c.spans.ends) }
     where
-      go : (w : List Tree) → Waits old slot next w → Waits new slot r (w ++ (t ∷ []))
+      go : (w : List Tree) → Waits old at w → Waits new (record { slot = at.slot; next = r }) (w ++ (t ∷ []))
       go [] x = absurd (n (omega (arith, x.ends)))
       go (y ∷ w) x = spans_waits (y ∷ w) t (spans_append (y ∷ w) (t ∷ []) (spans_agree (waits_spans x) c.frame (omega arith)) c.spans)
 
-module _ (make : Place → List Tree → Tree) {old : List ℕ} {slot next : ℕ} {place : Place} where
-  pub flushed_made : slot < next → {new : List ℕ} → Makes make old new slot next place → Flushed make old new slot next place
-  flushed_made l {new} m = record { by = λ w x. go w x; above = behind_more next (omega arith) m.above }
+module _ (make : Place → List Tree → Tree) {old : List ℕ} {at : Waiting} {place : Place} where
+  pub flushed_made : at.slot < at.next → {new : List ℕ} → Makes make old new at.slot at.next place → Flushed make old new at place
+  flushed_made l {new} m = record { by = λ w x. go w x; above = behind_more at.next (omega arith) m.above }
     where
-      go : (w : List Tree) → Waits old slot next w → Wrote old new slot next (flush make place w)
+      go : (w : List Tree) → Waits old at w → Wrote old new at.slot at.next (flush make place w)
       go [] x = absurd (omega (arith, x.ends))
       go (t ∷ w) x = m.by (t ∷ w) (waits_spans x)
 
 -- A spread among arguments: its array, or nothing.
 pub record Wrapped (t : Tree) (old new : List ℕ) (pos r : ℕ) : Type 0 where
   pub wrote : Wrote old new pos r (keep_if (flagged t) (make_array (place_of t) (t ∷ [])))
-  pub few : r ≤ pos + 1 + size t
 
 module _ (t : Tree) {b : Bool} (f : b ≡ flagged t) {old : List ℕ} {pos : ℕ} where
   pub wrapped_gone : b ≡ false → Wrapped t old old pos pos
-  wrapped_gone x = record { wrote = rw (sym f ∙ x) (wrote_none (before_all old pos)); few = omega arith }
+  wrapped_gone x = record { wrote = rw (sym f ∙ x) (wrote_none (before_all old pos)) }
 
   pub wrapped_kept : b ≡ true → {mid new : List ℕ} {r z : ℕ} {place : Place} → Wrote old mid (pos + 1) r (t ∷ []) → place ≡ t.head.place → z ≡ size t + 1
       → Recorded mid new pos (made_head kind.array 0 1 place) 1 z → Wrapped t old new pos r
@@ -103,5 +107,4 @@ module _ (t : Tree) {b : Bool} (f : b ≡ flagged t) {old : List ℕ} {pos : ℕ
     wrote =
         wrote_as (recorded_node (t ∷ []) (before_less pos (omega arith) a.frame) a.spans w refl (omega arith))
         (rw (sym f ∙ x, p));
-    few = omega (arith, a.spans.ends);
   }

@@ -3,8 +3,7 @@ ghost use Rattle.fields.specs.Place.{said_in};
 ghost use Rattle.rewrite.specs.Becomes.{GivenList, Becomes, join_kept_of};
 ghost use Rattle.rewrite.specs.Join.{GivenPair, Joins};
 
-use fields::record::kind;
-use fields::{Place, Record};
+use fields::{Kind, Place, Record};
 use readings::Node;
 
 // Two trees, behind record pos and at record second: "if a is a sequence, b is appended whole, even a sequence; else a sequence b
@@ -18,7 +17,7 @@ fn join_sequence(out: &mut [u8], pos: usize, second: usize, end: usize, place: P
         src: out,
         at: first,
     };
-    if left.kind() == kind::SEQUENCE {
+    if left.is_kind(Kind::Sequence) {
         output::move_down(out, first, end - first - 1);
         crate::made::make_sequence(out, pos, end - 1, place);
         return end - 1;
@@ -27,7 +26,7 @@ fn join_sequence(out: &mut [u8], pos: usize, second: usize, end: usize, place: P
         src: out,
         at: second,
     };
-    if right.kind() == kind::SEQUENCE {
+    if right.is_kind(Kind::Sequence) {
         output::move_down(out, second, end - second - 1);
         crate::made::make_sequence(out, pos, end - 1, place);
         return end - 1;

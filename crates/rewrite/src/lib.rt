@@ -12,4 +12,4 @@ pub use close::{
     none_one_several, remove_unused_array_expr, remove_unused_sequence_expr, sequence_if_any,
 };
 pub use join::join_kept;
-pub use waiting::{flush_object, flush_template, hold, wrap_spread};
+pub use waiting::{Waiting, flush_object, flush_template, hold, wrap_spread};

@@ -6,12 +6,16 @@
 mod out;
 mod words;
 
-ghost use Rattle.std.specs.Prelude.{◌+◌, ◌<◌, ◌≤◌, length};
+ghost use Rattle.std.specs.Prelude.{◌≤◌, length};
+ghost use Rattle.tree.specs.Tree.{All};
 ghost use Rattle.tree.specs.Layout.{header_bytes};
-ghost use Rattle.show.specs.Left.{HasKind};
+ghost use Rattle.readings.specs.View.{left};
+ghost use Rattle.show.specs.Shown.{HasKind, Shown};
 
 use fields::{Kind, Record};
+use file::{Accepted, Limits};
 use out::Out;
+use readings::Trees;
 
 fn main(rt: HostRuntime) {
     let mut input = [0u8; 79989];
@@ -22,20 +26,19 @@ fn main(rt: HostRuntime) {
 }
 
 fn print_file(src: &[u8], out: &mut Out) {
-    match file::check(src, file::Limits::LIST_EFFECTS) {
+    match file::check(src, Limits::LIST_EFFECTS) {
         Err(refusal) => {
             out.put_number("refused ", u32::from(refusal.number()));
             out.put("\n");
         }
-        Ok(accepted) => {
-            print_header(src, accepted.settings, out);
-            Trees {
+        Ok(Accepted { settings, count }) => {
+            print_header(src, settings, out);
+            let root = Trees {
                 src,
                 at: 0,
-                size: accepted.count,
-                level: 0,
-            }
-            .print(out);
+                end: count,
+            };
+            print_trees(root, 0, out);
         }
     }
 }
@@ -53,54 +56,30 @@ fn print_header(src: &[u8], settings: u8, out: &mut Out)
     out.put("\n");
 }
 
-// The trees that stand from record `at` on, in `size` records, so many levels under the root.
-#[derive(Clone, Copy)]
-struct Trees<'a> {
-    src: &'a [u8],
-    at: usize,
-    size: usize,
-    level: usize,
-}
-
-impl Trees<'_> {
-    ghost use Rattle.show.specs.Left.{Shown};
-
-    // It calls itself as deep as the trees are: siblings are walked by the loop, whose step is a tree's size.
-    fn print(self, out: &mut Out)
-        requires { Shown self }
-    {
-        let end = self.at + self.size;
-        let mut at = self.at;
-        while at < end {
-            let record = Record { src: self.src, at };
-            print_record(record, self.level, out);
-            let subtree = record.subtree();
-            Trees {
-                at: at + 1,
-                size: subtree - 1,
-                level: self.level + 1,
-                ..self
-            }
-            .print(out);
-            at += subtree;
-        }
+// Trees that are so many levels under the root. It calls itself as deep as they are; siblings are walked by the loop.
+fn print_trees(trees: Trees<'_>, level: usize, out: &mut Out)
+    requires { All (Shown level) (left trees) }
+{
+    for node in trees {
+        print_record(node.record, level, out);
+        print_trees(node.children(), level + 1, out);
     }
 }
 
-fn print_record(record: Record<'_>, level: usize, out: &mut Out)
-    requires { HasKind «record» }
+fn print_record(node: Record<'_>, level: usize, out: &mut Out)
+    requires { HasKind node }
 {
-    let kind = Kind::try_from(record.kind()).unwrap();
+    let kind = Kind::try_from(node.kind()).unwrap();
     for _ in 0..level {
         out.put("  ");
     }
     out.put(words::word(kind));
-    words::put_sub(kind, record.sub(), out);
-    out.put_flags(record.facts(), &words::FACTS);
-    out.put_number(" text ", record.text());
-    let place = record.place();
+    words::put_sub(kind, node.sub(), out);
+    out.put_flags(node.facts(), &words::FACTS);
+    out.put_number(" text ", node.text());
+    let place = node.place();
     out.put_number(" place ", place.start);
-    if fields::has_ends(record.src) {
+    if fields::has_ends(node.src) {
         out.put_number("..", place.end);
     }
     out.put("\n");

@@ -6,12 +6,12 @@ use Rattle.file.proofs.children.children_end.Goals.{then-size-eq0-via-then-size-
 
 pub loop-init : goal.loop-init
 loop-init c =
-    let o = permits_others _ c.kind-kind.ensures c.kinds_under-kinds.ensures in
+    let o = permits_others _ c.kinds_under-kinds.ensures in
     record {
       others = o;
       walking = record {
         first = true;
-        permits = permits_first _ _ c.kind-kind.ensures c.sub.ensures c.first_under-taken.ensures o;
+        permits = permits_first _ _ c.first_under-taken.ensures o;
         same = let z : c.children-n.result - 0 ≡ c.children-n.result = omega arith in rw (z, c.children-n.ensures.0) refl;
       };
     }

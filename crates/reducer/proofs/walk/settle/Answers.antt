@@ -8,4 +8,4 @@ pub returns-in-Object : goal.returns-in-Object
 unfolding tree_at
 returns-in-Object c =
     let place = place_said c.args.node.record.src.now c.args.out.now c.args.node.record.at c.requires.same c.place.ensures in
-    settles_as _ c.in-Object.is (settled_object {t = tree c.args.node} c.requires.list place c.flush_object.ensures)
+    rw c.none.ensures (settles_as _ c.in-Object.is (settled_object {t = tree c.args.node} c.requires.list place c.flush_object.ensures))

@@ -5,5 +5,5 @@ use Rattle.reducer.proofs.walk.settle_kept.Goals as goal
 
 pub returns : goal.returns
 returns c =
-    let place = place_said c.args.out.now c.args.out.now c.args.next refl c.place-place.ensures in
-    settled_left c.if-end-next.false place c.flush_template.ensures
+    let place = place_said c.args.out.now c.args.out.now c.args.waiting.next refl c.place-place.ensures in
+    rw c.none.ensures (settled_left c.if-end-next.false place c.flush_template.ensures)

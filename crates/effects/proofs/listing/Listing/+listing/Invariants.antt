@@ -4,7 +4,7 @@ use Rattle.readings.specs.Given.{given}
 use Rattle.readings.specs.View.{left}
 use Rattle.effects.specs.Listing.{part_of}
 use Rattle.effects.specs.Walking.{Walking, weight}
-use Rattle.effects.proofs.listing.+listing.Given as goal
+use Rattle.effects.proofs.listing.Listing.+listing.Given as goal
 
 -- Fewer levels remain, or as many, and the function called is the lower one.
 abbrev by : ℕ → ℕ → ℕ
@@ -41,11 +41,10 @@ abbrev pub decreases-list_parts : goal.decreases-list_parts
 decreases-list_parts l = by l.depth 5
 
 abbrev pub invariant-list_children-loop-node : goal.invariant-list_children-loop-node
-invariant-list_children-loop-node l = Walking (effects (given l.settings)) l.depth (left l.list) l.fn.out l.pos (left l.walk) l.out l.next
+invariant-list_children-loop-node l = Walking (effects (given l.fn.self.settings)) l.depth (left l.list) l.fn.self (left l.walk) l.self
 
 abbrev pub decreases-list_children-loop-node : goal.decreases-list_children-loop-node
 decreases-list_children-loop-node l = weight (left l.walk)
 
 abbrev pub invariant-list_parts-loop-node : goal.invariant-list_parts-loop-node
-invariant-list_parts-loop-node l =
-    Walking (part_of l.part (given l.settings)) l.depth (left l.list) l.fn.out l.pos (left l.node-iterator) l.out l.next
+invariant-list_parts-loop-node l = Walking (part_of l.part (given l.fn.self.settings)) l.depth (left l.list) l.fn.self (left l.node-iterator) l.self

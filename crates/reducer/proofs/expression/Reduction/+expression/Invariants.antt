@@ -1,9 +1,8 @@
 use Rattle.std.proofs.Common.{◌+◌, ◌*◌, ◌-◌}
 use Rattle.tree.specs.Tree.{size}
-use Rattle.readings.specs.Given.{given}
 use Rattle.readings.specs.View.{tree}
 use Rattle.reducer.specs.Children.{Walking}
-use Rattle.reducer.proofs.expression.+expression.Given as goal
+use Rattle.reducer.proofs.expression.Reduction.+expression.Given as goal
 
 -- Remaining depth, then remaining records, then the order in which the functions call one another on the same node.
 abbrev pub decreases-reduce_child : goal.decreases-reduce_child
@@ -23,4 +22,4 @@ decreases-remove_unused_expression l = l.depth * 1048576 + size (tree l.node) * 
 
 abbrev pub invariant-reduce_children-loop-node : goal.invariant-reduce_children-loop-node
 invariant-reduce_children-loop-node l =
-    Walking l.list l.depth (given l.settings) l.part l.fn.out l.pos l.node-iterator l.out l.slot l.next
+    Walking l.list l.depth l.part l.fn.self l.pos l.node-iterator l.self l.waiting
