@@ -106,7 +106,7 @@ module _ {u : Node} {m : ℕ} {o : Option Node} {w : Trees} (k : Parts u m o w) 
   unfolding extracted
   gives_up = wrote_as (wrote_both _ _ a b) (rw (heritage_is, elements_are) refl)
 
-  pub list_given : GivenList u new pos next
+  pub list_given : GivenList u.record new pos next
   list_given =
       let few : next + 1 ≤ pos + 1 + size (tree u) =
       omega (arith, a.spans.ends, b.spans.ends, filter_small flagged (option_to_list (option_map tree o)), all_extracted_small (left w), trees_size w, parts_size k) in

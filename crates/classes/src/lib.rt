@@ -58,5 +58,5 @@ pub fn remove_unused_class(node: Node, out: &mut [u8], pos: usize) -> usize
     let (heritage, elements) = node.heritage_and_elements();
     let first = copy_if_flagged(heritage, out, pos + 1);
     let next = extract_elements(elements, out, first);
-    rewrite::sequence_if_any(node, out, pos, next)
+    rewrite::sequence_if_any(node.record, out, pos, next)
 }

@@ -4,6 +4,7 @@
 #![tactic(auto)]
 
 ghost use Rattle.std.specs.Prelude.{◌<◌, length, IfSome};
+ghost use Rattle.std.specs.Iterator.{at_most};
 
 use refusal::Refusal;
 use std::io::{Stdout, Write};
@@ -15,24 +16,29 @@ fn main(rt: HostRuntime) {
 }
 
 fn answer_cases(stdout: &mut Stdout, input: &[u8]) {
-    let mut left = input;
-    while let Some((scopes, ancestors, rest)) = split_case(left) {
+    for (scopes, ancestors) in Cases(input) {
         print_answer(
             stdout,
             derived::derived_constructor_this_scope(scopes, ancestors),
         );
-        left = rest;
     }
 }
 
-// The scopes and the ancestors of the case that stands first, and what stands behind it. A case that has no ancestors list is cut
-// short, and is not answered.
-fn split_case(input: &[u8]) -> Option<(&[u8], &[u8], &[u8])>
-    ensures { IfSome result (λ case. length case.2.now < length input.now) }
-{
-    let (scopes, rest) = split_list(input)?;
-    let (ancestors, rest) = split_list(rest)?;
-    Some((scopes, ancestors, rest))
+// The cases of an input, each its scopes and its ancestors. One that has no ancestors list is cut short, and is left out.
+#[derive(Drop)]
+struct Cases<'a>(&'a [u8]);
+
+impl<'a> Iterator for Cases<'a> {
+    type Item = (&'a [u8], &'a [u8]);
+
+    ghost remaining = { λ cases. at_most (length cases.0.now) };
+
+    fn next(&mut self) -> Option<(&'a [u8], &'a [u8])> {
+        let (scopes, rest) = split_list(self.0)?;
+        let (ancestors, rest) = split_list(rest)?;
+        self.0 = rest;
+        Some((scopes, ancestors))
+    }
 }
 
 // The list that stands first, and what stands behind it: of one that is cut short, what is there.

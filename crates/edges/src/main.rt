@@ -4,7 +4,7 @@
 
 use file::{Accepted, Limits};
 use refusal::Refusal;
-use std::io::{Stdin, Stdout};
+use std::io::{Stdin, Stdout, Write};
 
 // The longest file that two bytes can ask for.
 const LONGEST: usize = 65535;
@@ -41,15 +41,10 @@ fn check_file(stdout: &mut Stdout, src: &[u8]) {
     streams::write_all(stdout, b"\n");
 }
 
+// A write that fails is passed over.
 fn print_answer(stdout: &mut Stdout, answer: Result<Accepted, Refusal>) {
-    match answer {
-        Ok(Accepted { settings, count }) => {
-            streams::print_decimal(stdout, u64::from(settings));
-            streams::write_all(stdout, b"/");
-            streams::print_decimal(stdout, count as u64);
-        }
-        Err(refusal) => {
-            streams::print_decimal(stdout, u64::from(refusal.number()));
-        }
-    }
+    let _ = match answer {
+        Ok(Accepted { settings, count }) => write!(stdout, "{settings}/{count}"),
+        Err(refusal) => write!(stdout, "{}", refusal.number()),
+    };
 }

@@ -8,12 +8,10 @@ use Rattle.tree.specs.Below.{and_both, and_left, and_right}
 use Rattle.tree.specs.Children.{node_ok, formed}
 use Rattle.rules.specs.Settings.{Settings}
 use Rattle.rules.specs.Conditional.{test_of, consequent_of, alternate_of}
-use Rattle.rules.specs.Effects.{evaluate, effects, effects_of, coercion}
+use Rattle.rules.specs.Effects.{effects_of}
 use Rattle.readings.specs.Given.{given}
 use Rattle.stated.specs.Wrote.{Wrote, wrote_none, wrote_both}
 use Rattle.effects.specs.declared.listing.Listing.{Listing}
-use Rattle.effects.specs.declared.listing.Part.{Part}
-use Rattle.effects.specs.declared.listing.Part.TheVariants.{Coerced, Key, Static}
 
 -- There is room for l, and for one entry more.
 abbrev pub HasRoom : Listing → List ℕ → Type 0
@@ -29,13 +27,6 @@ pub record Listed (old new : Listing) (l : List ℕ) : Type 0 where
 pub record Listable (depth : ℕ) (t : Tree) : Type 0 where
   pub ok : formed (one t) ≡ true
   pub low : tree.depth t ≤ depth
-
--- What a part of a tree lists: a template's child, followed by its coercion; of a class element the computed key, or the static value
--- or block.
-abbrev pub part_of : Part → Settings → Tree → List ℕ
-part_of Coerced s t = effects s t ++ coercion t
-part_of Key s t = (evaluate s t).key
-part_of Static s t = (evaluate s t).static
 
 -- Of the children of a conditional: the test, and then the arm that runs.
 abbrev pub tested : Bool → Settings → List Tree → List ℕ
@@ -85,6 +76,14 @@ room_first a b count room f = omega (arith, f, length-append a b)
 pub room_after : {s t : Listing} {a : List ℕ} (b : List ℕ) → Listed s t a → HasRoom s (a ++ b) → HasRoom t b
 room_after {s} {t} {a} b x f =
     omega (arith, f, x.wrote.ends, length-append a b, ap length x.wrote.entries, length-sets s.entries.now s.count a)
+
+-- Where a and b are listed, what follows both.
+module _ {s t u : Listing} {a b : List ℕ} (x : Listed s t a) (y : Listed t u b) where
+  pub room_after_both : (l : List ℕ) → HasRoom s (a ++ (b ++ l)) → HasRoom u l
+  room_after_both l f = room_after l y (room_after (b ++ l) x f)
+
+  pub listed_after_both : {v : Listing} {l : List ℕ} → Listed u v l → Listed s v (a ++ (b ++ l))
+  listed_after_both z = listed_both x (listed_both y z)
 
 -- By these a list that is written in parts is written as a whole.
 pub ruleset steps = (listed_none, listed_both, listed_as, room_first, room_after)

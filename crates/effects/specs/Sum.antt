@@ -1,15 +1,13 @@
 -- An addition's sides, and what follows both, as the listing finds them.
-use Rattle.std.specs.Prelude.{◌≡◌, refl, Bool, true, false, [], ◌∷◌, ◌++◌, ℕ, Option, None, Some, IsSome, option_map, unwrap_or}
+use Rattle.std.specs.Prelude.{◌≡◌, refl, Bool, true, false, [], ◌∷◌, ℕ, Option, None, Some, IsSome, option_map, unwrap_or}
 use Rattle.std.proofs.Common.{sym, ap, ◌∙◌, arith}
 use Rattle.std.proofs.lemmas.Option.{none-some}
 use Rattle.tree.specs.Tree.{Forest, nil, node, Tree, count, trees}
 use Rattle.tree.specs.Stands.{two_sides}
-use Rattle.tree.specs.Symbol.{Sides, is_addition, is_string, string_fact}
+use Rattle.tree.specs.Symbol.{Sides, is_addition, is_string, is_string_sides, string_fact}
 use Rattle.rules.specs.Lists.{keep_if}
-use Rattle.rules.specs.Settings.{Settings}
 use Rattle.rules.specs.Facts.{flagged}
-use Rattle.rules.specs.Effects.{effects, coercion, coercion_number, itself_if, addition_effect}
-use Rattle.rules.proofs.Addition.{effects_sides}
+use Rattle.rules.specs.Effects.{coercion, coercion_number, itself_if, addition_effect}
 use Rattle.readings.specs.declared.node.Node.{Node}
 use Rattle.readings.specs.Sides.{first_two}
 use Rattle.readings.specs.Symbol.{possible_symbol_if, possible_told}
@@ -46,16 +44,25 @@ module _ {depth : ℕ} {t : Tree} (l : Listable depth t) (a : is_addition t ≡ 
         go (node h cs (node g xs nil)) c e = sym (ap (λ (o : Option (Tree × Tree)). (unwrap_or o (tree p.0, tree p.1)).0 ∷ (unwrap_or o (tree p.0, tree p.1)).1 ∷ []) e)
         go (node h cs (node g xs (node k ys rest))) c e = absurd (omega (arith, c))
 
--- What is listed of it, by whether its sides are strings.
-module _ (s : Settings) {t l r : Tree} (S : Sides t l r) where
-  pub right_coerced : is_string l ≡ true → effects s t ≡ effects s l ++ (effects s r ++ coercion r)
-  unfolding addition_effect
-  right_coerced e = effects_sides s t l r S ∙ rw e refl
+-- What follows both sides, and whether the addition is a string, where `first` tells whether the left side is one, and `fact` what the
+-- right side's fact is.
+module _ {t l r : Tree} (S : Sides t l r) {first : Bool} (f : first ≡ is_string l) where
+  module _ (x : first ≡ true) where
+    pub right_coerced : addition_effect t l r ≡ coercion r
+    unfolding addition_effect
+    right_coerced = rw (← f, x) refl
 
-  pub left_coerced : is_string l ≡ false → string_fact r ≡ true → effects s t ≡ effects s l ++ (effects s r ++ coercion l)
-  unfolding addition_effect
-  left_coerced e f = effects_sides s t l r S ∙ rw (e, f) refl
+    pub string_left : true ≡ is_string t
+    string_left = sym (is_string_sides t l r S ∙ rw (← f, x) refl)
 
-  pub itself_listed : is_string l ≡ false → string_fact r ≡ false → effects s t ≡ effects s l ++ (effects s r ++ itself_if (flagged t) t)
-  unfolding addition_effect
-  itself_listed e f = effects_sides s t l r S ∙ rw (e, f) refl
+  module _ (x : first ≡ false) {fact : Bool} (g : fact ≡ string_fact r) where
+    pub left_coerced : fact ≡ true → addition_effect t l r ≡ coercion l
+    unfolding addition_effect
+    left_coerced y = rw (← f, x, ← g, y) refl
+
+    pub itself_listed : fact ≡ false → addition_effect t l r ≡ itself_if (flagged t) t
+    unfolding addition_effect
+    itself_listed y = rw (← f, x, ← g, y) refl
+
+    pub string_right : {b : Bool} → fact ≡ b → b ≡ is_string t
+    string_right y = sym (is_string_sides t l r S ∙ rw (← f, x, ← g, y) refl)

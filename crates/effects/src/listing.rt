@@ -1,13 +1,13 @@
 // The effect list of trees, as it is written: an expression lists its children, and a list of children each expression.
 // Remaining depth falls at each call that goes down; siblings are walked by a loop, so that the stack is bounded by the depth.
-ghost use Rattle.std.specs.Prelude.{◌≡◌, true, false, option_map, option_to_list};
+ghost use Rattle.std.specs.Prelude.{◌≡◌, ◌++◌, true, false, option_map, option_to_list};
 ghost use Rattle.tree.specs.Tree.{All};
 ghost use Rattle.tree.specs.Symbol.{is_addition, is_string};
 ghost use Rattle.rules.specs.Lists.{concat_map};
-ghost use Rattle.rules.specs.Effects.{effects, effects_of};
+ghost use Rattle.rules.specs.Effects.{coercion, effects, effects_of, evaluate};
 ghost use Rattle.readings.specs.Given.{given};
 ghost use Rattle.readings.specs.View.{left, tree};
-ghost use Rattle.effects.specs.Listing.{HasRoom, Listable, Listed, part_of, tested};
+ghost use Rattle.effects.specs.Listing.{HasRoom, Listable, Listed, tested};
 ghost use Rattle.effects.specs.Plan.{is_passed, planned};
 
 use crate::entry::Effect;
@@ -21,17 +21,6 @@ pub struct Listing<'a> {
     pub settings: Settings<'a>,
     pub entries: &'a mut [u64],
     pub count: usize,
-}
-
-// What of a child is listed, where it is not the child alone.
-#[derive(Clone, Copy)]
-pub enum Part {
-    // the child, followed by its coercion
-    Coerced,
-    // of a class element, its computed key
-    Key,
-    // of a class element, its static value or block
-    Static,
 }
 
 impl Listing<'_> {
@@ -55,36 +44,41 @@ impl Listing<'_> {
         }
     }
 
-    // A part of each of the trees of a list.
+    // Each tree of a list, followed by its coercion.
     #[cycle(listing)]
-    fn list_parts(&mut self, list: Trees, part: Part, depth: usize)
+    fn list_coerced(&mut self, list: Trees, depth: usize)
         requires listable { All (Listable depth) (left list) }
-        requires room { HasRoom self.old (concat_map (part_of part (given self.old.settings)) (left list)) }
-        ensures { Listed self.old self.new (concat_map (part_of part (given self.old.settings)) (left list.entry)) }
+        requires room { HasRoom self.old (concat_map (λ c. effects (given self.old.settings) c ++ coercion c) (left list)) }
+        ensures { Listed self.old self.new (concat_map (λ c. effects (given self.old.settings) c ++ coercion c) (left list.entry)) }
     {
         for node in list {
-            self.list_part(node, part, depth);
+            let string = self.list_side(node, depth);
+            self.list_coercion(node, string);
         }
     }
 
-    // A part of one tree.
-    #[tactic(auto, using(crate::specs::Listing::steps, rules::proofs::Effects::key_is))]
+    // The computed keys of class elements.
     #[cycle(listing)]
-    fn list_part(&mut self, node: Node, part: Part, depth: usize)
-        requires listable { Listable depth (tree node) }
-        requires room { HasRoom self.old (part_of part (given self.old.settings) (tree node)) }
-        ensures { Listed self.old self.new (part_of part (given self.old.settings) (tree node.entry)) }
+    fn list_keys(&mut self, elements: Trees, depth: usize)
+        requires listable { All (Listable depth) (left elements) }
+        requires room { HasRoom self.old (concat_map (λ e. (evaluate (given self.old.settings) e).key) (left elements)) }
+        ensures { Listed self.old self.new (concat_map (λ e. (evaluate (given self.old.settings) e).key) (left elements.entry)) }
     {
-        match part {
-            Part::Coerced => {
-                let string = self.list_side(node, depth);
-                self.list_coercion(node, string);
-            }
-            Part::Key => {
-                let (key, _) = node.key_and_value();
-                self.list_any(key, depth - 1);
-            }
-            Part::Static => self.list_static(node, depth),
+        for element in elements {
+            let (key, _) = element.key_and_value();
+            self.list_any(key, depth - 1);
+        }
+    }
+
+    // Their static values and blocks.
+    #[cycle(listing)]
+    fn list_statics(&mut self, elements: Trees, depth: usize)
+        requires listable { All (Listable depth) (left elements) }
+        requires room { HasRoom self.old (concat_map (λ e. (evaluate (given self.old.settings) e).static) (left elements)) }
+        ensures { Listed self.old self.new (concat_map (λ e. (evaluate (given self.old.settings) e).static) (left elements.entry)) }
+    {
+        for element in elements {
+            self.list_static(element, depth);
         }
     }
 
@@ -93,8 +87,8 @@ impl Listing<'_> {
     #[cycle(listing)]
     fn list_static(&mut self, node: Node, depth: usize)
         requires listable { Listable depth (tree node) }
-        requires room { HasRoom self.old (part_of Part.Static (given self.old.settings) (tree node)) }
-        ensures { Listed self.old self.new (part_of Part.Static (given self.old.settings) (tree node.entry)) }
+        requires room { HasRoom self.old ((evaluate (given self.old.settings) (tree node)).static) }
+        ensures { Listed self.old self.new ((evaluate (given self.old.settings) (tree node.entry)).static) }
     {
         if readings::has_static_value(node.record) {
             let (_, value) = node.key_and_value();
@@ -133,7 +127,7 @@ impl Listing<'_> {
                 self.list_children(children, below);
                 self.list_if(node, when, Effect::Itself);
             }
-            Plan::Coerced => self.list_parts(children, Part::Coerced, below),
+            Plan::Coerced => self.list_coerced(children, below),
             Plan::Arguments => {
                 children.next();
                 self.list_children(children, below);
@@ -217,7 +211,7 @@ impl Listing<'_> {
         let (heritage, elements) = node.heritage_and_elements();
         self.list_any(heritage, below);
         self.list_if(node, node.class_is_effect(), Effect::Itself);
-        self.list_parts(elements, Part::Key, below);
-        self.list_parts(elements, Part::Static, below);
+        self.list_keys(elements, below);
+        self.list_statics(elements, below);
     }
 }

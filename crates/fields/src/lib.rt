@@ -5,10 +5,8 @@ pub mod kind;
 pub mod offset;
 pub mod record;
 
-ghost use Rattle.std.specs.Prelude.{◌≡◌, ◌+◌, ◌<◌, ◌≤◌, length};
-ghost use Rattle.tree.specs.Offset as offset;
+ghost use Rattle.std.specs.Prelude.{◌≡◌, ◌<◌, ◌≤◌, length};
 ghost use Rattle.tree.specs.Layout.{version_by, version_in, header_bytes, width, start_in};
-ghost use Rattle.tree.specs.Room.{records_in};
 
 pub use kind::{Kind, UnknownKind};
 pub use record::Record;
@@ -48,12 +46,4 @@ pub fn file_length(src: &[u8], n: usize) -> usize
     ensures { result ≡ start_in src.now n }
 {
     HEADER_BYTES + width_of(src) * n
-}
-
-// Where record i of src starts, which is where a file of the records before it ends.
-pub fn start_of(src: &[u8], i: usize) -> usize
-    requires { i + 1 ≤ records_in src.now }
-    ensures { (result ≡ start_in src.now i) × (result + offset.end ≤ length src.now) }
-{
-    Record { src, at: i }.start()
 }

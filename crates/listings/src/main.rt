@@ -1,10 +1,11 @@
 // For the tests: lists the effects of each tree file of standard input. A file stands behind its length in two bytes.
 // Printed for a file: `count` and how many effects it has, then a line for each, place/kind/coercion;
 // or `refused` and the number. A file that is cut short is not listed. Of the input the first 655,360 bytes are read.
+// A write that fails is passed over.
 #![tactic(auto)]
 
 use cases::Cases;
-use std::io::Stdout;
+use std::io::{Stdout, Write};
 
 // Twice the 3,999 records that a file has at most: enough for any file, so that none is refused with 10.
 const ENTRIES: usize = 7998;
@@ -28,20 +29,17 @@ fn print_effects(stdout: &mut Stdout, src: &[u8]) {
     let mut entries = [0u64; ENTRIES];
     match effects::list_effects(src, &mut entries) {
         Ok(count) => {
-            streams::print_number(stdout, b"count ", count as u64);
+            let _ = writeln!(stdout, "count {count}");
             for entry in &entries[..count] {
                 print_entry(stdout, *entry);
             }
         }
         Err(refusal) => {
-            streams::print_number(stdout, b"refused ", u64::from(refusal.number()));
+            let _ = writeln!(stdout, "{refusal}");
         }
     }
 }
 
 fn print_entry(stdout: &mut Stdout, entry: u64) {
-    streams::print_decimal(stdout, entry / 512);
-    streams::write_all(stdout, b"/");
-    streams::print_decimal(stdout, entry / 2 % 256);
-    streams::print_number(stdout, b"/", entry % 2);
+    let _ = writeln!(stdout, "{}/{}/{}", entry / 512, entry / 2 % 256, entry % 2);
 }

@@ -49,8 +49,8 @@ pub fn copy_records(src: &[u8], at: usize, n: usize, out: &mut [u8], pos: usize)
     if n == 0 {
         return;
     }
-    let from = fields::start_of(src, at);
-    let to = fields::start_of(out, pos);
+    let from = Record { src, at }.start();
+    let to = Record { src: out, at: pos }.start();
     let length = fields::width_of(src) * n;
     copy_bytes(src, from, length, out, to);
 }
@@ -60,9 +60,7 @@ pub fn copy_tree(node: Node, out: &mut [u8], pos: usize) -> usize
     requires { GivenTree node out.old pos }
     ensures { Wrote out.old out.new pos result (tree node.entry ∷ []) }
 {
-    let size = node.size();
-    copy_records(node.record.src, node.record.at, size, out, pos);
-    pos + size
+    copy_trees(node.alone(), out, pos)
 }
 
 // The same of trees that stand one behind the other.
@@ -81,7 +79,7 @@ pub fn move_down(out: &mut [u8], pos: usize, n: usize)
     requires { pos + 1 + n ≤ records_in out.old }
     ensures { MovedRecords out.old (pos + 1) n out.old out.new pos }
 {
-    let to = fields::start_of(out, pos);
+    let to = Record { src: out, at: pos }.start();
     let width = fields::width_of(out);
     let from = to + width;
     out.copy_within(from..from + width * n, to);
@@ -102,7 +100,7 @@ pub fn keep_at(kept: Record, out: &mut [u8], pos: usize, counts: Counts)
     ensures { Recorded out.old out.new pos (head kept.entry) counts.children counts.records }
 {
     copy_records(kept.src, kept.at, 1, out, pos);
-    let p = fields::start_of(out, pos);
+    let p = Record { src: out, at: pos }.start();
     patch(&mut out[p..], counts);
 }
 
@@ -139,7 +137,7 @@ pub fn make_at(out: &mut [u8], pos: usize, head: MadeHead, counts: Counts)
     requires { pos + 1 ≤ records_in out.old }
     ensures { Recorded out.old out.new pos (made_head (number_of head.kind) head.sub head.facts (said_in out.old head.place)) counts.children counts.records }
 {
-    let p = fields::start_of(out, pos);
+    let p = Record { src: out, at: pos }.start();
     let ends = fields::has_ends(out);
     make(&mut out[p..], ends, head, counts);
 }

@@ -1,5 +1,5 @@
 // A class by its parts: what makes it an effect, what keeps it, and what its elements say.
-ghost use Rattle.std.specs.Prelude.{◌≡◌, ◌≤◌, IfSome, drop, option_map, option_to_list, take};
+ghost use Rattle.std.specs.Prelude.{◌≡◌, IfSome, cond, drop, option_map, option_to_list, take};
 ghost use Rattle.tree.specs.Tree.{trees};
 ghost use Rattle.rules.specs.Lists.{any};
 ghost use Rattle.rules.specs.Class.{arrow_heritage, computed_key, decorated_element, elements, flagged_static_value, heritage, kept_class, value_of};
@@ -12,18 +12,15 @@ use crate::node::{Node, Trees};
 use fields::Kind;
 
 impl<'a> Node<'a> {
-    // Its first `has` children, none or one, and the others.
-    fn split_children(self, has: u8) -> (Option<Node<'a>>, Trees<'a>)
-        requires { has ≤ 1 }
-        ensures first { option_to_list (option_map tree result.0) ≡ take has (trees (tree self.entry).kids) }
-        ensures others { left result.1 ≡ drop has (trees (tree self.entry).kids) }
+    // Its first child, where that is one of its own, and the others.
+    fn split_children(self, own: bool) -> (Option<Node<'a>>, Trees<'a>)
+        ensures first { option_to_list (option_map tree result.0) ≡ take (cond own 1 0) (trees (tree self.entry).kids) }
+        ensures others { left result.1 ≡ drop (cond own 1 0) (trees (tree self.entry).kids) }
         ensures source { (result.1.src.now ≡ self.entry.record.src.now) × IfSome result.0 (λ n. n.record.src.now ≡ self.entry.record.src.now) }
     {
         let mut children = self.children();
-        if has == 0 {
-            return (None, children);
-        }
-        (children.next(), children)
+        let first = if own { children.next() } else { None };
+        (first, children)
     }
 
     // Of a class.
@@ -32,7 +29,7 @@ impl<'a> Node<'a> {
         ensures others { left result.1 ≡ elements (tree self.entry) }
         ensures source { (result.1.src.now ≡ self.entry.record.src.now) × IfSome result.0 (λ n. n.record.src.now ≡ self.entry.record.src.now) }
     {
-        self.split_children(self.record.sub() / 2 % 2)
+        self.split_children(self.record.sub() / 2 % 2 == 1)
     }
 
     // Of a class element.
@@ -41,7 +38,7 @@ impl<'a> Node<'a> {
         ensures others { left result.1 ≡ value_of (tree self.entry) (trees (tree self.entry).kids) }
         ensures source { (result.1.src.now ≡ self.entry.record.src.now) × IfSome result.0 (λ n. n.record.src.now ≡ self.entry.record.src.now) }
     {
-        self.split_children(self.record.sub() / 16 % 2)
+        self.split_children(self.record.sub() / 16 % 2 == 1)
     }
 
     fn flagged_static_value(self) -> bool

@@ -6,11 +6,11 @@ ghost use Rattle.readings.specs.Sides.{first_two};
 ghost use Rattle.readings.specs.View.{left, tree};
 
 use crate::node::{Node, Trees};
-use fields::Record;
 
 impl<'a> Node<'a> {
     pub fn alone(self) -> Trees<'a>
-        ensures { left result ≡ tree self.entry ∷ [] }
+        ensures trees { left result ≡ tree self.entry ∷ [] }
+        ensures source { result.src.now ≡ self.entry.record.src.now }
     {
         Trees {
             src: self.record.src,
@@ -48,14 +48,8 @@ impl<'a> Trees<'a> {
     pub fn first(self) -> Option<Node<'a>>
         ensures { option_map tree result ≡ slice_get (left self.entry) 0 }
     {
-        if self.at == self.end {
-            return None;
-        }
-        let record = Record {
-            src: self.src,
-            at: self.at,
-        };
-        Some(Node { record })
+        let mut walk = self;
+        walk.next()
     }
 
     // Goes into the first tree: the list is its children, and then the trees behind it.

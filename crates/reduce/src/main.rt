@@ -1,6 +1,9 @@
 // Writes what Reduce leaves of a tree file: one tree file, or nothing; a refusal on standard error.
 // Of standard input the first 40,009 bytes are read: one more than the longest file that is taken.
+// A write that fails is passed over.
 #![tactic(auto)]
+
+use std::io::Write;
 
 fn main(rt: HostRuntime) {
     let mut input = [0u8; 40009];
@@ -12,7 +15,7 @@ fn main(rt: HostRuntime) {
         }
         Ok(None) => {}
         Err(refusal) => {
-            streams::print_number(&mut rt.stderr(), b"refused ", u64::from(refusal.number()));
+            let _ = writeln!(rt.stderr(), "{refusal}");
         }
     }
 }

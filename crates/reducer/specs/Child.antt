@@ -53,7 +53,7 @@ module _ {u : Node} {depth : ℕ} {old : List ℕ} {at : Waiting} (g : GivenChil
   pub child_small : size (tree u) < 65535
   child_small = omega (arith, g.small, waits_after g.waits)
 
-  pub given_settle : (part : Part) (st : Settings) {mid : List ℕ} {end : ℕ} → Wrote old mid at.next end (left_of part st (tree u)) → GivenSettle u mid at end
+  pub given_settle : (part : Part) (st : Settings) {mid : List ℕ} {end : ℕ} → Wrote old mid at.next end (left_of part st (tree u)) → GivenSettle u.record mid at end
   given_settle part st a = record {
     same = a.frame.same ∙ g.same;
     list = record {
@@ -67,8 +67,8 @@ module _ {u : Node} {depth : ℕ} {old : List ℕ} {at : Waiting} (g : GivenChil
   }
 
 module _ (part : Part) (t : Tree) {b : Bool} (p : b ≡ waits part t) where
-  by_waits : (st : Settings) (c : Bool) → b ≡ c → (w : List Tree) → cond c (record { done = []; waiting = w ++ (t ∷ []) }) (settled part t w (left_of part st t)) ≡ step part st w t
-  by_waits st c e w = ap (λ (x : Bool). cond x (record { done = []; waiting = w ++ (t ∷ []) }) (settled part t w (left_of part st t))) (sym e ∙ p)
+  by_waits : (st : Settings) (c : Bool) → b ≡ c → (w : List Tree) → cond c (record { done = []; waiting = w ++ (t ∷ []) }) (settled part (place_of t) w (left_of part st t)) ≡ step part st w t
+  by_waits st c e w = ap (λ (x : Bool). cond x (record { done = []; waiting = w ++ (t ∷ []) }) (settled part (place_of t) w (left_of part st t))) (sym e ∙ p)
 
   -- It waits.
   pub child_held : b ≡ true → {old new : Reduction} {at at' : Waiting} → Stays old new → Held t old.out.now new.out.now at at' → ReducedChild t part old new at at'
@@ -80,7 +80,7 @@ module _ (part : Part) (t : Tree) {b : Bool} (p : b ≡ waits part t) where
 
   -- It does not, and what is left of it was written behind what waits.
   pub child_settled : b ≡ false → {old mid new : Reduction} {at at' : Waiting} {end : ℕ} → Reduced old mid at.next end (left_of part (given old.settings) t) → Stays mid new
-      → Settles t part mid.out.now new.out.now at end at' → ReducedChild t part old new at at'
+      → Settles (place_of t) part mid.out.now new.out.now at end at' → ReducedChild t part old new at at'
   child_settled e {old} {at = at} a k f = record {
     by = λ w x.
         stepped_as (by_waits (given old.settings) false e w)

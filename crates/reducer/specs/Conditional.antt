@@ -7,6 +7,7 @@ use Rattle.rules.specs.Settings.{Settings}
 use Rattle.rules.specs.Conditional as conditional
 use Rattle.rules.specs.Reduce.{reduce, join_arms}
 use Rattle.rules.proofs.Theorems.{at_most_twice}
+use Rattle.readings.specs.At.{tree_at}
 use Rattle.readings.specs.View.{tree}
 use Rattle.readings.specs.declared.node.Node.{Node}
 use Rattle.effects.specs.Listing.{Listable, listable_kids}
@@ -98,7 +99,7 @@ module _ {u test first second : Node} (a : Arms u test first second) {st : Setti
   alternate_spans : Spans mid'' middle end (reduce st (tree second))
   alternate_spans = spans_kept y.spans behind (omega (arith, x.spans.ends))
 
-  pub arms_given : (end ≡ pos + 1 + size (tree test) → ⊥) → GivenArms u mid'' pos (pos + 1 + size (tree test)) middle end
+  pub arms_given : (end ≡ pos + 1 + size (tree test) → ⊥) → GivenArms u.record mid'' pos (pos + 1 + size (tree test)) middle end
   arms_given k = record {
     same = m.frame.same ∙ (frame a g x y).same ∙ g.given.same;
     tests = tree test ∷ [];
@@ -112,8 +113,9 @@ module _ {u test first second : Node} (a : Arms u test first second) {st : Setti
     small = omega (arith, few a g x y, g.given.small);
   }
 
-  pub conditional_done : {new : List ℕ} {r : ℕ} → JoinsArms u mid'' new pos (pos + 1 + size (tree test)) middle end r → Wrote old new pos r (reduce st (tree u))
+  pub conditional_done : {new : List ℕ} {r : ℕ} → JoinsArms u.record mid'' new pos (pos + 1 + size (tree test)) middle end r → Wrote old new pos r (reduce st (tree u))
+  unfolding tree_at
   conditional_done j =
       let e : conditional.test (tree u) ≡ tree test ∷ [] = rw a.kids refl in
-      let z = j.by (rw e test_spans) (reduce st (tree test)) (reduce st (tree first)) (reduce st (tree second)) consequent_spans alternate_spans in
+      let z = j.by (tree u) refl (rw e test_spans) (reduce st (tree test)) (reduce st (tree first)) (reduce st (tree second)) consequent_spans alternate_spans in
       wrote_as (record { spans = z.spans; frame = before_trans (before_trans (before_less pos (omega arith) (frame a g x y)) (before_less pos (omega arith) m.frame) (omega arith)) z.frame (omega arith) }) (sym (joined a g))

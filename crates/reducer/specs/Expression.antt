@@ -1,13 +1,15 @@
 -- An expression, by its outcome.
-use Rattle.std.specs.Prelude.{◌≡◌, List, [], ◌∷◌, ◌++◌, drop, map, ℕ, ◌+◌, ◌*◌, ◌-◌, ◌≤◌}
+use Rattle.std.specs.Prelude.{◌≡◌, refl, List, [], ◌∷◌, ◌++◌, drop, map, ℕ, ◌+◌, ◌*◌, ◌-◌, ◌≤◌}
 use Rattle.std.proofs.Common.{sym, ap, subst, ◌∙◌, arith}
 use Rattle.tree.specs.Tree.{Place, Tree, All, trees, forest, records, size, forest_trees}
 use Rattle.tree.specs.Layout.{version_in}
+use Rattle.fields.specs.Record.{head}
 use Rattle.rules.specs.Lists.{concat_map}
 use Rattle.rules.specs.Settings.{Settings}
 use Rattle.rules.specs.Made.{place_of, make_template, make_object}
 use Rattle.rules.specs.Reduce.{reduce, flush, none_one_several, fold_arguments_into_needed_expressions}
 use Rattle.rules.specs.Results.{reduced}
+use Rattle.readings.specs.At.{tree_at}
 use Rattle.readings.specs.Given.{given}
 use Rattle.readings.specs.View.{left, tree}
 use Rattle.readings.specs.declared.node.Node.{Node}
@@ -62,8 +64,8 @@ module _ {u : Node} {depth : ℕ} {old : List ℕ} {pos : ℕ} (g : GivenTree u 
     outer_given = record { listable = l; same = g.same ∙ ap version_in (sym source); fits = omega (arith, g.fits, size_is); small = omega (arith, g.small, size_is) }
 
 -- A list behind the free record at pos, and what it becomes.
-module _ {u : Node} {old mid : List ℕ} {pos next : ℕ} where
-  pub list_given : {depth : ℕ} → GivenTree u depth old pos → (ts : List Tree) → Wrote old mid (pos + 1) next ts → next + 2 ≤ pos + 1 + 2 * size (tree u) → GivenList u mid pos next
+module _ {old mid : List ℕ} {pos next : ℕ} where
+  pub list_given : {u : Node} {depth : ℕ} → GivenTree u depth old pos → (ts : List Tree) → Wrote old mid (pos + 1) next ts → next + 2 ≤ pos + 1 + 2 * size (tree u) → GivenList u.record mid pos next
   list_given g ts w l = record {
     same = w.frame.same ∙ g.same;
     list = ts;
@@ -72,8 +74,9 @@ module _ {u : Node} {old mid : List ℕ} {pos next : ℕ} where
     small = omega (arith, g.small);
   }
 
-  pub becomes_left : {f : Tree → List Tree → List Tree} {new : List ℕ} {r : ℕ} → Becomes f u mid new pos next r → (ts : List Tree) → Wrote old mid (pos + 1) next ts → Wrote old new pos r (f (tree u) ts)
-  becomes_left b ts w = wrote_over w (omega arith) (b.by ts w.spans)
+  pub becomes_left : (u : Node) {f : Tree → List Tree → List Tree} {new : List ℕ} {r : ℕ} → Becomes f u.record mid new pos next r → (ts : List Tree) → Wrote old mid (pos + 1) next ts → Wrote old new pos r (f (tree u) ts)
+  unfolding tree_at
+  becomes_left u b ts w = wrote_over w (omega arith) (b.by (tree u) refl ts w.spans)
 
 module _ {st : Settings} {t : Tree} where
   pub removable_done : HandledAs st t Removable → {old : List ℕ} {pos : ℕ} → Wrote old old pos pos (reduce st t)
@@ -95,7 +98,7 @@ module _ {ts : List Tree} {old mid : Reduction} {pos : ℕ} {at : Waiting} where
 
 -- Children of which some may wait, behind the free record at pos.
 module _ (u : Node) {old mid : Reduction} {pos : ℕ} {at : Waiting} where
-  pub walked_given : (part : Part) {depth : ℕ} → GivenTree u depth old.out.now pos → ReducedChildren (trees (tree u).kids) part old mid (none_at (pos + 1)) at → GivenWalked u mid.out.now pos at
+  pub walked_given : (part : Part) {depth : ℕ} → GivenTree u depth old.out.now pos → ReducedChildren (trees (tree u).kids) part old mid (none_at (pos + 1)) at → GivenWalked u.record mid.out.now pos at
   walked_given part g a =
       let d = walked_stepped part a in
       let k = ap records (forest_trees (tree u).kids) in
@@ -111,17 +114,18 @@ module _ (u : Node) {old mid : Reduction} {pos : ℕ} {at : Waiting} where
   closes_done : (part : Part) (o : Rewrite) (make : Place → List Tree → Tree)
       → none_one_several (place_of (tree u)) ((walked part (given old.settings) [] (trees (tree u).kids)).done ++ flush make (place_of (tree u)) (walked part (given old.settings) [] (trees (tree u).kids)).waiting) ≡ rewritten o (given old.settings) (tree u)
       → HandledAs (given old.settings) (tree u) (Rewritten o) → ReducedChildren (trees (tree u).kids) part old mid (none_at (pos + 1)) at
-      → {new : List ℕ} {r : ℕ} → Closes make (tree u) mid.out.now new pos at r → Wrote old.out.now new pos r (reduce (given old.settings) (tree u))
+      → {new : List ℕ} {r : ℕ} → Closes make (head u.record).place mid.out.now new pos at r → Wrote old.out.now new pos r (reduce (given old.settings) (tree u))
+  unfolding tree_at
   closes_done part o make e h a b =
       let d = walked_stepped part a in
       wrote_as (wrote_over d.done (omega arith) (b.by (walked part (given old.settings) [] (trees (tree u).kids)) d.done.spans d.waiting)) (e ∙ sym h.is)
 
   pub template_done : HandledAs (given old.settings) (tree u) (Rewritten rewrites.Template) → ReducedChildren (trees (tree u).kids) Template old mid (none_at (pos + 1)) at
-      → {new : List ℕ} {r : ℕ} → Closes make_template (tree u) mid.out.now new pos at r → Wrote old.out.now new pos r (reduce (given old.settings) (tree u))
+      → {new : List ℕ} {r : ℕ} → Closes make_template (head u.record).place mid.out.now new pos at r → Wrote old.out.now new pos r (reduce (given old.settings) (tree u))
   template_done = closes_done Template rewrites.Template make_template (ap (none_one_several (place_of (tree u))) (sym (template_walked (given old.settings) (place_of (tree u)) [] (trees (tree u).kids))))
 
   pub object_done : HandledAs (given old.settings) (tree u) (Rewritten rewrites.Object) → ReducedChildren (trees (tree u).kids) Object old mid (none_at (pos + 1)) at
-      → {new : List ℕ} {r : ℕ} → Closes make_object (tree u) mid.out.now new pos at r → Wrote old.out.now new pos r (reduce (given old.settings) (tree u))
+      → {new : List ℕ} {r : ℕ} → Closes make_object (head u.record).place mid.out.now new pos at r → Wrote old.out.now new pos r (reduce (given old.settings) (tree u))
   object_done = closes_done Object rewrites.Object make_object (ap (none_one_several (place_of (tree u))) (sym (object_walked (given old.settings) (place_of (tree u)) [] (trees (tree u).kids))))
 
 -- A class: room for what it gives up.

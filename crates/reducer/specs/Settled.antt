@@ -3,9 +3,9 @@ use Rattle.std.specs.Prelude.{◌≡◌, List, [], ◌∷◌, ℕ, ◌+◌, ◌<
 use Rattle.std.proofs.Common.{sym, ap, subst, ◌∙◌, arith}
 use Rattle.tree.specs.Tree.{Place, Head, Tree}
 use Rattle.tree.specs.Layout.{version_in}
-use Rattle.readings.specs.declared.node.Node.{Node}
 use Rattle.tree.specs.Room.{records_in}
 use Rattle.tree.specs.Fields.{head_at}
+use Rattle.fields.specs.declared.record.Record.{Record}
 use Rattle.rules.specs.Made.{place_of, make_template, make_object}
 use Rattle.rules.specs.Reduce.{flush}
 use Rattle.output.specs.Records.{before_all}
@@ -34,12 +34,12 @@ pub record SettlesKept (old new : List ℕ) (at : Waiting) (end : ℕ) (at' : Wa
   pub by : (w : List Tree) → Waits old at w → (r : List Tree) → Spans old at.next end r → Stepped old new at.slot at' (settled_kept w r)
   pub few : at'.next ≤ end
 
-pub record GivenSettle (u : Node) (out : List ℕ) (at : Waiting) (end : ℕ) : Type 0 where
-  pub same : version_in out ≡ version_in u.record.src.now
+pub record GivenSettle (u : Record) (out : List ℕ) (at : Waiting) (end : ℕ) : Type 0 where
+  pub same : version_in out ≡ version_in u.src.now
   pub list : GivenSettled out at end
 
-pub record Settles (t : Tree) (part : Part) (old new : List ℕ) (at : Waiting) (end : ℕ) (at' : Waiting) : Type 0 where
-  pub by : (w : List Tree) → Waits old at w → (r : List Tree) → Spans old at.next end r → Stepped old new at.slot at' (settled part t w r)
+pub record Settles (p : Place) (part : Part) (old new : List ℕ) (at : Waiting) (end : ℕ) (at' : Waiting) : Type 0 where
+  pub by : (w : List Tree) → Waits old at w → (r : List Tree) → Spans old at.next end r → Stepped old new at.slot at' (settled part p w r)
   pub few : at'.next ≤ end
 
 pub settled_waiting : {out : List ℕ} {at : Waiting} {end : ℕ} → GivenSettled out at end → GivenWaiting out at
@@ -71,27 +71,27 @@ module _ {old : List ℕ} {at : Waiting} {end : ℕ} where
             waiting = waits_none new end;
           }
 
-module _ {t : Tree} {old : List ℕ} {at : Waiting} {end : ℕ} where
-  pub settled_object : {new : List ℕ} {place : Place} → GivenSettled old at end → place ≡ t.head.place → Flushed make_object old new at place → Settles t Object old new at end (none_at end)
+module _ {p : Place} {old : List ℕ} {at : Waiting} {end : ℕ} where
+  pub settled_object : {new : List ℕ} {place : Place} → GivenSettled old at end → place ≡ p → Flushed make_object old new at place → Settles p Object old new at end (none_at end)
   settled_object {new} {place} g ep f = record { by = go; few = omega arith }
     where
-      go : (w : List Tree) → Waits old at w → (r : List Tree) → Spans old at.next end r → Stepped old new at.slot (none_at end) (settled Object t w r)
+      go : (w : List Tree) → Waits old at w → (r : List Tree) → Spans old at.next end r → Stepped old new at.slot (none_at end) (settled Object p w r)
       go w x r d =
-          let y : Wrote old new at.slot at.next (flush make_object (place_of t) w) = subst (λ (q : Place). Wrote old new at.slot at.next (flush make_object q w)) ep (f.by w x) in
+          let y : Wrote old new at.slot at.next (flush make_object p w) = subst (λ (q : Place). Wrote old new at.slot at.next (flush make_object q w)) ep (f.by w x) in
           record {
-            done = record { spans = spans_append (flush make_object (place_of t) w) r y.spans (spans_kept d f.above (omega arith)); frame = y.frame };
+            done = record { spans = spans_append (flush make_object p w) r y.spans (spans_kept d f.above (omega arith)); frame = y.frame };
             waiting = waits_none new end;
           }
 
   module _ {new : List ℕ} {at' : Waiting} (k : SettlesKept old new at end at') where
-    pub settled_in_order : Settles t InOrder old new at end at'
+    pub settled_in_order : Settles p InOrder old new at end at'
     settled_in_order = record { by = k.by; few = k.few }
 
-    pub settled_argument : Settles t Argument old new at end at'
+    pub settled_argument : Settles p Argument old new at end at'
     settled_argument = record { by = k.by; few = k.few }
 
-    pub settled_template : Settles t Template old new at end at'
+    pub settled_template : Settles p Template old new at end at'
     settled_template = record { by = k.by; few = k.few }
 
-  pub settles_as : {new : List ℕ} {at' : Waiting} (part : Part) {q : Part} → part ≡ q → Settles t q old new at end at' → Settles t part old new at end at'
-  settles_as {new} {at'} part e w = subst (λ (x : Part). Settles t x old new at end at') (sym e) w
+  pub settles_as : {new : List ℕ} {at' : Waiting} (part : Part) {q : Part} → part ≡ q → Settles p q old new at end at' → Settles p part old new at end at'
+  settles_as {new} {at'} part e w = subst (λ (x : Part). Settles p x old new at end at') (sym e) w

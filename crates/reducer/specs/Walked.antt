@@ -1,6 +1,6 @@
 -- A list of children walked one by one: what is left of them so far, and what waits.
 use Rattle.std.specs.Prelude.{Bool, false, cond, List, [], ◌∷◌, ◌++◌}
-use Rattle.tree.specs.Tree.{Tree}
+use Rattle.tree.specs.Tree.{Place, Tree}
 use Rattle.rules.specs.Settings.{Settings}
 use Rattle.rules.specs.Handler.{is_spread}
 use Rattle.rules.specs.Facts.{possible_symbol}
@@ -53,15 +53,15 @@ settled_kept w [] = record { done = []; waiting = w }
 settled_kept w (x ∷ xs) = record { done = flush make_template (place_of x) w ++ (x ∷ xs); waiting = [] }
 
 -- "the next property makes them an object at its own place"
-abbrev pub settled : Part → Tree → List Tree → List Tree → Progress
-settled InOrder t w r = settled_kept w r
-settled Argument t w r = settled_kept w r
-settled Template t w r = settled_kept w r
-settled Object t w r = record { done = flush make_object (place_of t) w ++ r; waiting = [] }
+abbrev pub settled : Part → Place → List Tree → List Tree → Progress
+settled InOrder p w r = settled_kept w r
+settled Argument p w r = settled_kept w r
+settled Template p w r = settled_kept w r
+settled Object p w r = record { done = flush make_object p w ++ r; waiting = [] }
 
 -- One child, behind those that wait.
 abbrev pub step : Part → Settings → List Tree → Tree → Progress
-step part s w t = cond (waits part t) (record { done = []; waiting = w ++ (t ∷ []) }) (settled part t w (left_of part s t))
+step part s w t = cond (waits part t) (record { done = []; waiting = w ++ (t ∷ []) }) (settled part (place_of t) w (left_of part s t))
 
 -- The children in order.
 abbrev pub walked : Part → Settings → List Tree → List Tree → Progress

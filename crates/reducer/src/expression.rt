@@ -51,7 +51,7 @@ impl Reduction<'_> {
         } else {
             self.remove_unused_expression(node, depth, waiting.next)
         };
-        walk::settle(node, part, self.out, waiting, end)
+        walk::settle(node.record, part, self.out, waiting, end)
     }
 
     #[cycle(expression)]
@@ -72,7 +72,7 @@ impl Reduction<'_> {
                 let mut arguments = node.children();
                 arguments.next();
                 let waiting = self.reduce_children(arguments, Part::Argument, below, pos + 1);
-                rewrite::none_one_several(node, self.out, pos, waiting.next)
+                rewrite::none_one_several(node.record, self.out, pos, waiting.next)
             }
             Outcome::Addition => addition::remove_unused_addition(node, self.out, pos),
             Outcome::Class => classes::remove_unused_class(node, self.out, pos),
@@ -97,7 +97,7 @@ impl Reduction<'_> {
         }
         let Record { src, at } = test.record;
         output::copy_records(src, at, test.size(), self.out, pos + 1);
-        rewrite::join_arms(node, self.out, pos, arms, middle, end)
+        rewrite::join_arms(node.record, self.out, pos, arms, middle, end)
     }
 
     // A node that is rewritten over the list of what is left of its children, which stands behind the free record at pos.
@@ -110,12 +110,13 @@ impl Reduction<'_> {
         let part = walk::part_under(made);
         let waiting = self.reduce_children(node.children(), part, depth - 1, pos + 1);
         let end = waiting.next;
+        let record = node.record;
         match made {
-            Rewrite::Sequence => rewrite::remove_unused_sequence_expr(node, self.out, pos, end),
-            Rewrite::Array => rewrite::remove_unused_array_expr(node, self.out, pos, end),
-            Rewrite::Template => close::close_template(node, self.out, pos, waiting),
-            Rewrite::Object => close::close_object(node, self.out, pos, waiting),
-            Rewrite::Comparison => rewrite::join_kept(node, self.out, pos, end),
+            Rewrite::Sequence => rewrite::remove_unused_sequence_expr(record, self.out, pos, end),
+            Rewrite::Array => rewrite::remove_unused_array_expr(record, self.out, pos, end),
+            Rewrite::Template => close::close_template(record, self.out, pos, waiting),
+            Rewrite::Object => close::close_object(record, self.out, pos, waiting),
+            Rewrite::Comparison => rewrite::join_kept(record, self.out, pos, end),
         }
     }
 }

@@ -1,5 +1,6 @@
 // What is left of a list of children, child by child, as the parent asks for it.
 ghost use Rattle.std.specs.Prelude.{◌≡◌};
+ghost use Rattle.fields.specs.Record.{head};
 ghost use Rattle.readings.specs.View.{tree};
 ghost use Rattle.reducer.specs.Walked.{part_under, waits, wraps};
 ghost use Rattle.reducer.specs.Settled.{GivenSettled, SettlesKept, GivenSettle, Settles};
@@ -64,14 +65,14 @@ fn settle_kept(out: &mut [u8], waiting: Waiting, end: usize) -> Waiting
 
 // What is left of the child stands behind what waits, up to record end: what waits before it waits no more, but goes on waiting in a
 // template of whose child nothing is left.
-pub fn settle(node: Node, part: Part, out: &mut [u8], waiting: Waiting, end: usize) -> Waiting
+pub fn settle(node: Record, part: Part, out: &mut [u8], waiting: Waiting, end: usize) -> Waiting
     requires { GivenSettle node out.old waiting end }
-    ensures { Settles (tree node.entry) part out.old out.new waiting end result }
+    ensures { Settles (head node.entry).place part out.old out.new waiting end result }
 {
     match part {
         Part::InOrder | Part::Argument | Part::Template => settle_kept(out, waiting, end),
         Part::Object => {
-            rewrite::flush_object(out, waiting, node.record.place());
+            rewrite::flush_object(out, waiting, node.place());
             Waiting::none(end)
         }
     }

@@ -3,11 +3,11 @@
 // hold before, and the file; one that is cut short is not reduced. Printed for a case: `refused` and the number, `removable`,
 // or `kept` and the length, then the rewritten file in hexadecimal, a line for its header and a line for each record. Behind
 // any of them: `tail`, how many lent bytes stand behind the answer, and how many of these have changed.
-// Of the input the first 655,360 bytes are read.
+// Of the input the first 655,360 bytes are read. A write that fails is passed over.
 #![tactic(auto)]
 
 use cases::{Case, Cases};
-use std::io::Stdout;
+use std::io::{Stdout, Write};
 
 // What stands before the file of a case.
 const HEAD: usize = 5;
@@ -33,17 +33,17 @@ fn reduce_file(stdout: &mut Stdout, src: &[u8], lent: u16, fill: u8) {
 fn print_reduced(stdout: &mut Stdout, src: &[u8], out: &mut [u8], fill: u8) {
     match reducer::reduce(src, out) {
         Ok(Some(length)) => {
-            streams::print_number(stdout, b"kept ", length as u64);
+            let _ = writeln!(stdout, "kept {length}");
             let (file, tail) = out.split_at(length);
             print_file(stdout, file);
             print_tail(stdout, tail, fill);
         }
         Ok(None) => {
-            streams::write_all(stdout, b"removable\n");
+            let _ = writeln!(stdout, "removable");
             print_tail(stdout, out, fill);
         }
         Err(refusal) => {
-            streams::print_number(stdout, b"refused ", u64::from(refusal.number()));
+            let _ = writeln!(stdout, "{refusal}");
             print_tail(stdout, out, fill);
         }
     }
@@ -52,6 +52,7 @@ fn print_reduced(stdout: &mut Stdout, src: &[u8], out: &mut [u8], fill: u8) {
 #[tactic(auto, using(tree::specs::Room::fields_within))]
 fn print_file(stdout: &mut Stdout, file: &[u8]) {
     let Some((header, records)) = file.split_at_checked(fields::HEADER_BYTES) else {
+        print_bytes(stdout, file);
         return;
     };
     print_bytes(stdout, header);
@@ -63,24 +64,13 @@ fn print_file(stdout: &mut Stdout, file: &[u8]) {
 // A line of two hexadecimal digits a byte.
 fn print_bytes(stdout: &mut Stdout, bytes: &[u8]) {
     for byte in bytes {
-        print_byte(stdout, *byte);
+        let _ = write!(stdout, "{byte:02x}");
     }
-    streams::write_all(stdout, b"\n");
-}
-
-fn print_byte(stdout: &mut Stdout, byte: u8) {
-    let digits = b"0123456789abcdef";
-    let text = [
-        digits[usize::from(byte / 16)],
-        digits[usize::from(byte % 16)],
-    ];
-    streams::write_all(stdout, &text);
+    let _ = writeln!(stdout);
 }
 
 // The lent bytes behind the answer, and how many of them are not the byte that all of them held before.
 fn print_tail(stdout: &mut Stdout, tail: &[u8], fill: u8) {
     let changed = tail.iter().filter(|byte| **byte != fill).count();
-    streams::write_all(stdout, b"tail ");
-    streams::print_decimal(stdout, tail.len() as u64);
-    streams::print_number(stdout, b" ", changed as u64);
+    let _ = writeln!(stdout, "tail {} {changed}", tail.len());
 }

@@ -1,11 +1,11 @@
 -- The arms of a conditional, of which one is left at least, behind its test: what the node becomes.
 use Rattle.std.specs.Prelude.{◌≡◌, refl, List, [], ◌∷◌, ◌++◌, ℕ, ◌+◌, ◌<◌, ◌≤◌}
-use Rattle.std.proofs.Common.{sym, ap, subst, arith}
-use Rattle.tree.specs.Tree.{Place, Tree}
+use Rattle.std.proofs.Common.{sym, ap, subst, ◌∙◌, arith}
+use Rattle.tree.specs.Tree.{Place, Head, Tree}
 use Rattle.tree.specs.Layout.{version_in}
 use Rattle.tree.specs.Room.{records_in}
-use Rattle.readings.specs.View.{tree}
-use Rattle.readings.specs.declared.node.Node.{Node}
+use Rattle.fields.specs.Record.{head}
+use Rattle.fields.specs.declared.record.Record.{Record}
 use Rattle.rules.specs.Made.{and_sub, or_sub, make_logical, with_children}
 use Rattle.rules.specs.Conditional.{test}
 use Rattle.rules.specs.Reduce.{stays_with, join_arms}
@@ -13,10 +13,10 @@ use Rattle.output.specs.Trees.{Spans, Wrote, wrote_as, spans_append}
 use Rattle.rewrite.specs.Made.{GivenMade, Makes}
 use Rattle.rewrite.specs.Becomes.{GivenList, Becomes, list_made}
 
--- A conditional, and behind the free record pos of out, whose records are as wide, its test and what is left of its
+-- A conditional's record, and behind the free record pos of out, whose records are as wide, its test and what is left of its
 -- arms.
-pub record GivenArms (u : Node) (out : List ℕ) (pos arms middle end : ℕ) : Type 0 where
-  pub same : version_in out ≡ version_in u.record.src.now
+pub record GivenArms (u : Record) (out : List ℕ) (pos arms middle end : ℕ) : Type 0 where
+  pub same : version_in out ≡ version_in u.src.now
   pub tests : List Tree
   pub consequents : List Tree
   pub alternates : List Tree
@@ -27,13 +27,13 @@ pub record GivenArms (u : Node) (out : List ℕ) (pos arms middle end : ℕ) : T
   pub inside : end ≤ records_in out
   pub small : end < pos + 65536
 
--- Whatever is left of the conditional's arms: what 02 joins of them was written from record pos to record r. (What is left of its test,
--- qs, is for where no arm is left.)
-pub record JoinsArms (u : Node) (old new : List ℕ) (pos arms middle end r : ℕ) : Type 0 where
-  pub by : Spans old (pos + 1) arms (test (tree u)) → (qs cs bs : List Tree) → Spans old arms middle cs → Spans old middle end bs
-      → Wrote old new pos r (join_arms (tree u) qs cs bs)
+-- Whatever conditional t has the record's head, and whatever is left of its arms: what 02 joins of them was written from record pos to
+-- record r. (What is left of its test, qs, is for where no arm is left.)
+pub record JoinsArms (u : Record) (old new : List ℕ) (pos arms middle end r : ℕ) : Type 0 where
+  pub by : (t : Tree) → head u ≡ t.head → Spans old (pos + 1) arms (test t) → (qs cs bs : List Tree) → Spans old arms middle cs → Spans old middle end bs
+      → Wrote old new pos r (join_arms t qs cs bs)
 
-module _ {u : Node} {out : List ℕ} {pos arms middle end : ℕ} (g : GivenArms u out pos arms middle end) where
+module _ {u : Record} {out : List ℕ} {pos arms middle end : ℕ} (g : GivenArms u out pos arms middle end) where
   pub arms_list : GivenList u out pos end
   arms_list = record {
     same = g.same;
@@ -46,9 +46,9 @@ module _ {u : Node} {out : List ℕ} {pos arms middle end : ℕ} (g : GivenArms 
   pub arms_made : GivenMade out pos end
   arms_made = list_made arms_list
 
-module _ {u : Node} {old new : List ℕ} {pos arms middle end : ℕ} {place : Place} (ep : place ≡ (tree u).head.place) where
+module _ {u : Record} {old new : List ℕ} {pos arms middle end : ℕ} {place : Place} (ep : place ≡ (head u).place) where
   pub consequent_gone : middle ≡ arms → arms < end → Makes (make_logical or_sub) old new pos end place → JoinsArms u old new pos arms middle end end
-  consequent_gone e l m = record { by = go (tree u) ep }
+  consequent_gone e l m = record { by = λ t h q qs cs bs x y. go t (ep ∙ ap (λ (k : Head). k.place) h) q qs cs bs x y }
     where
       go : (t : Tree) → place ≡ t.head.place → Spans old (pos + 1) arms (test t) → (qs cs bs : List Tree) → Spans old arms middle cs → Spans old middle end bs
           → Wrote old new pos end (join_arms t qs cs bs)
@@ -59,7 +59,7 @@ module _ {u : Node} {old new : List ℕ} {pos arms middle end : ℕ} {place : Pl
       go t p q qs (c ∷ cs) bs x y = absurd (omega (arith, e, x.ends))
 
   pub alternate_gone : (middle ≡ arms → ⊥) → end ≡ middle → Makes (make_logical and_sub) old new pos end place → JoinsArms u old new pos arms middle end end
-  alternate_gone n e m = record { by = go (tree u) ep }
+  alternate_gone n e m = record { by = λ t h q qs cs bs x y. go t (ep ∙ ap (λ (k : Head). k.place) h) q qs cs bs x y }
     where
       go : (t : Tree) → place ≡ t.head.place → Spans old (pos + 1) arms (test t) → (qs cs bs : List Tree) → Spans old arms middle cs → Spans old middle end bs
           → Wrote old new pos end (join_arms t qs cs bs)
@@ -74,17 +74,14 @@ stays_over : (t : Tree) (xs : List Tree) (y : Tree) (ys : List Tree) → stays_w
 stays_over t [] y ys = refl
 stays_over t (x ∷ xs) y ys = refl
 
-pub both_stay : {u : Node} {old new : List ℕ} {pos arms middle end r : ℕ} → (middle ≡ arms → ⊥) → (end ≡ middle → ⊥) → Becomes stays_with u old new pos end r
+pub both_stay : {u : Record} {old new : List ℕ} {pos arms middle end r : ℕ} → (middle ≡ arms → ⊥) → (end ≡ middle → ⊥) → Becomes stays_with u old new pos end r
     → JoinsArms u old new pos arms middle end r
 both_stay {u} {old} {new} {pos} {arms} {middle} {end} {r} n k w = record { by = go }
   where
-    t : Tree
-    t = tree u
-
-    go : Spans old (pos + 1) arms (test t) → (qs cs bs : List Tree) → Spans old arms middle cs → Spans old middle end bs
+    go : (t : Tree) → head u ≡ t.head → Spans old (pos + 1) arms (test t) → (qs cs bs : List Tree) → Spans old arms middle cs → Spans old middle end bs
         → Wrote old new pos r (join_arms t qs cs bs)
-    go q qs [] bs x y = absurd (n (omega (arith, x.ends)))
-    go q qs (c ∷ cs) [] x y = absurd (k (omega (arith, y.ends)))
-    go q qs (c ∷ cs) (b ∷ bs) x y =
-        wrote_as (w.by (test t ++ ((c ∷ cs) ++ (b ∷ bs))) (spans_append (test t) ((c ∷ cs) ++ (b ∷ bs)) q (spans_append (c ∷ cs) (b ∷ bs) x y)))
+    go t h q qs [] bs x y = absurd (n (omega (arith, x.ends)))
+    go t h q qs (c ∷ cs) [] x y = absurd (k (omega (arith, y.ends)))
+    go t h q qs (c ∷ cs) (b ∷ bs) x y =
+        wrote_as (w.by t h (test t ++ ((c ∷ cs) ++ (b ∷ bs))) (spans_append (test t) ((c ∷ cs) ++ (b ∷ bs)) q (spans_append (c ∷ cs) (b ∷ bs) x y)))
         (stays_over t (test t) c (cs ++ (b ∷ bs)))

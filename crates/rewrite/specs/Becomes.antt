@@ -1,12 +1,12 @@
 -- A list that stands behind a free record, and what it becomes: none, one or several trees left.
 use Rattle.std.specs.Prelude.{◌≡◌, Bool, true, false, cond, List, [], ◌∷◌, ◌⊎◌, ℕ, ◌+◌, ◌-◌, ◌<◌, ◌≤◌}
 use Rattle.std.proofs.Common.{ap, ◌∙◌, inl, inr, arith}
-use Rattle.tree.specs.Tree.{Place, Tree, forest, records}
+use Rattle.tree.specs.Tree.{Place, Head, Tree, forest, records}
 use Rattle.tree.specs.Layout.{version_in}
 use Rattle.tree.specs.Room.{records_in}
 use Rattle.tree.specs.Fields.{subtree_at}
-use Rattle.readings.specs.View.{tree}
-use Rattle.readings.specs.declared.node.Node.{Node}
+use Rattle.fields.specs.Record.{head}
+use Rattle.fields.specs.declared.record.Record.{Record}
 use Rattle.rules.specs.Lists.{any}
 use Rattle.rules.specs.Handler.{is_spread}
 use Rattle.rules.specs.Made.{place_of, make_sequence, with_children}
@@ -16,17 +16,17 @@ use Rattle.output.specs.Trees.{Spans, Wrote, wrote_as, stands_copied, recorded_n
 use Rattle.output.specs.Lists.{Counts}
 use Rattle.rewrite.specs.Made.{GivenMade, Makes}
 
--- A node, and some list behind the free record pos of out, whose records are as wide.
-pub record GivenList (u : Node) (out : List ℕ) (pos end : ℕ) : Type 0 where
-  pub same : version_in out ≡ version_in u.record.src.now
+-- A node's record, and some list behind the free record pos of out, whose records are as wide.
+pub record GivenList (u : Record) (out : List ℕ) (pos end : ℕ) : Type 0 where
+  pub same : version_in out ≡ version_in u.src.now
   pub list : List Tree
   pub spans : Spans out (pos + 1) end list
   pub inside : end ≤ records_in out
   pub small : end < pos + 65536
 
--- Whatever list stands behind record pos: f of the node and the list was written from there to r.
-pub record Becomes (f : Tree → List Tree → List Tree) (u : Node) (old new : List ℕ) (pos end r : ℕ) : Type 0 where
-  pub by : (ts : List Tree) → Spans old (pos + 1) end ts → Wrote old new pos r (f (tree u) ts)
+-- Whatever node t has the record's head, and whatever list stands behind record pos: f t of the list was written from there to r.
+pub record Becomes (f : Tree → List Tree → List Tree) (u : Record) (old new : List ℕ) (pos end r : ℕ) : Type 0 where
+  pub by : (t : Tree) → head u ≡ t.head → (ts : List Tree) → Spans old (pos + 1) end ts → Wrote old new pos r (f t ts)
 
 abbrev pub none_one_several_of : Tree → List Tree → List Tree
 none_one_several_of t ts = none_one_several (place_of t) ts
@@ -45,7 +45,7 @@ array_of t ts = cond (any is_spread ts) (stays_with t ts) (none_one_several (pla
 abbrev pub join_kept_of : Tree → List Tree → List Tree
 join_kept_of t ts = join_kept (place_of t) ts
 
-module _ {u : Node} {out : List ℕ} {pos end : ℕ} (g : GivenList u out pos end) where
+module _ {u : Record} {out : List ℕ} {pos end : ℕ} (g : GivenList u out pos end) where
   pub list_made : GivenMade out pos end
   list_made = record { list = g.list; spans = g.spans; inside = g.inside; small = g.small }
 
@@ -54,8 +54,8 @@ abbrev pub OneOf : Bool → ℕ → ℕ → Type 0
 OneOf alone one z = ((alone ≡ true) × (one ≡ z)) ⊎ ((alone ≡ false) × (one ≡ 0))
 
 -- One tree, by its size z: moved down.
-one_left : {u : Node} {old new : List ℕ} {pos end z : ℕ} → z ≡ subtree_at old (pos + 1) → (end ≡ pos + 1 → ⊥) → pos + 1 + z ≡ end → MovedRecords old (pos + 1) z old new pos → Becomes none_one_several_of u old new pos end (end - 1)
-one_left {u} {old} {new} {pos} {end} {z} ez n e m = record { by = λ ts d. go (tree u) ts d }
+one_left : {u : Record} {old new : List ℕ} {pos end z : ℕ} → z ≡ subtree_at old (pos + 1) → (end ≡ pos + 1 → ⊥) → pos + 1 + z ≡ end → MovedRecords old (pos + 1) z old new pos → Becomes none_one_several_of u old new pos end (end - 1)
+one_left {u} {old} {new} {pos} {end} {z} ez n e m = record { by = λ t h ts d. go t ts d }
   where
     go : (t : Tree) (ts : List Tree) → Spans old (pos + 1) end ts → Wrote old new pos (end - 1) (none_one_several (place_of t) ts)
     go t [] d = absurd (n (omega (arith, d.ends)))
@@ -68,9 +68,9 @@ one_left {u} {old} {new} {pos} {end} {z} ez n e m = record { by = λ ts d. go (t
     go t (x ∷ y ∷ ys) d = absurd (omega (arith, d.ends, d.stands.2))
 
 -- More than one, by the first one's size z.
-module _ {u : Node} {old : List ℕ} {pos end z : ℕ} (ez : z ≡ subtree_at old (pos + 1)) (n : end ≡ pos + 1 → ⊥) where
-  several_left : {new : List ℕ} {place : Place} → (pos + 1 + z ≡ end → ⊥) → place ≡ (tree u).head.place → Makes make_sequence old new pos end place → Becomes none_one_several_of u old new pos end end
-  several_left {new} {place} e ep m = record { by = λ ts d. go (tree u) ep ts d }
+module _ {u : Record} {old : List ℕ} {pos end z : ℕ} (ez : z ≡ subtree_at old (pos + 1)) (n : end ≡ pos + 1 → ⊥) where
+  several_left : {new : List ℕ} {place : Place} → (pos + 1 + z ≡ end → ⊥) → place ≡ (head u).place → Makes make_sequence old new pos end place → Becomes none_one_several_of u old new pos end end
+  several_left {new} {place} e ep m = record { by = λ t h ts d. go t (ep ∙ ap (λ (x : Head). x.place) h) ts d }
     where
       go : (t : Tree) → place ≡ t.head.place → (ts : List Tree) → Spans old (pos + 1) end ts → Wrote old new pos end (none_one_several (place_of t) ts)
       go t p [] d = absurd (n (omega (arith, d.ends)))
@@ -78,8 +78,8 @@ module _ {u : Node} {old : List ℕ} {pos end z : ℕ} (ez : z ≡ subtree_at ol
       go t p (x ∷ y ∷ ys) d = wrote_as (m.by (x ∷ y ∷ ys) d) (ap (λ (q : Place). make_sequence q (x ∷ y ∷ ys) ∷ []) p)
 
   -- A sequence of one or more.
-  any_left : {new : List ℕ} {place : Place} → place ≡ (tree u).head.place → Makes make_sequence old new pos end place → Becomes sequence_if_any_of u old new pos end end
-  any_left {new} {place} ep m = record { by = λ ts d. go (tree u) ep ts d }
+  any_left : {new : List ℕ} {place : Place} → place ≡ (head u).place → Makes make_sequence old new pos end place → Becomes sequence_if_any_of u old new pos end end
+  any_left {new} {place} ep m = record { by = λ t h ts d. go t (ep ∙ ap (λ (x : Head). x.place) h) ts d }
     where
       go : (t : Tree) → place ≡ t.head.place → (ts : List Tree) → Spans old (pos + 1) end ts → Wrote old new pos end (sequence_if_any (place_of t) ts)
       go t p [] d = absurd (n (omega (arith, d.ends)))
@@ -90,16 +90,18 @@ module _ {u : Node} {old : List ℕ} {pos end z : ℕ} (ez : z ≡ subtree_at ol
   list_one alone (inl (a, o)) e {new} m = rw a (one_left (o ∙ ez) n e m)
   list_one alone (inr (a, o)) e m = absurd (n (omega arith))
 
-  pub list_several : (alone : Bool) {one : ℕ} → OneOf alone one z → (pos + 1 + one ≡ end → ⊥) → {new : List ℕ} {place : Place} → place ≡ (tree u).head.place
+  pub list_several : (alone : Bool) {one : ℕ} → OneOf alone one z → (pos + 1 + one ≡ end → ⊥) → {new : List ℕ} {place : Place} → place ≡ (head u).place
       → Makes make_sequence old new pos end place → Becomes (list_of alone) u old new pos end end
   list_several alone (inl (a, o)) e ep m = rw a (several_left (λ x. e (omega (arith, x, o))) ep m)
   list_several alone (inr (a, o)) e ep m = rw a (any_left ep m)
 
 -- The node itself over what is left.
-pub stays_some : {u : Node} {old new : List ℕ} {pos end n z : ℕ} → (end ≡ pos + 1 → ⊥) → Counts old (pos + 1) end n → z ≡ end - pos → Recorded old new pos (tree u).head n z → Becomes stays_with u old new pos end end
+pub stays_some : {u : Record} {old new : List ℕ} {pos end n z : ℕ} → (end ≡ pos + 1 → ⊥) → Counts old (pos + 1) end n → z ≡ end - pos → Recorded old new pos (head u) n z → Becomes stays_with u old new pos end end
 unfolding with_children
 stays_some {u} {old} {new} {pos} {end} {n} {z} ne c ez r = record { by = go }
   where
-    go : (ts : List Tree) → Spans old (pos + 1) end ts → Wrote old new pos end (stays_with (tree u) ts)
-    go [] d = absurd (ne (omega (arith, d.ends)))
-    go (x ∷ xs) d = recorded_node (x ∷ xs) (before_all old pos) d r (c.by (x ∷ xs) d) (omega (arith, d.ends))
+    go : (t : Tree) → head u ≡ t.head → (ts : List Tree) → Spans old (pos + 1) end ts → Wrote old new pos end (stays_with t ts)
+    go t h [] d = absurd (ne (omega (arith, d.ends)))
+    go t h (x ∷ xs) d =
+        wrote_as (recorded_node (x ∷ xs) (before_all old pos) d r (c.by (x ∷ xs) d) (omega (arith, d.ends)))
+        (ap (λ (y : Head). record { head = y; kids = forest (x ∷ xs) } ∷ []) h)

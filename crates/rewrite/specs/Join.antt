@@ -14,8 +14,8 @@ use Rattle.output.specs.Records.{MovedRecords, before_less, before_trans, before
 use Rattle.output.specs.Trees.{Spans, Wrote, wrote_as, spans_append, stands_copied}
 use Rattle.output.specs.Lists.{first_spans, rest_spans}
 use Rattle.rewrite.specs.Made.{GivenMade, Makes}
-use Rattle.readings.specs.View.{tree}
-use Rattle.readings.specs.declared.node.Node.{Node}
+use Rattle.fields.specs.Record.{head}
+use Rattle.fields.specs.declared.record.Record.{Record}
 use Rattle.rewrite.specs.Becomes.{GivenList, Becomes, none_one_several_of, join_kept_of}
 use Rattle.tree.specs.Kind as kind
 
@@ -145,14 +145,14 @@ module _ {old : List ℕ} (pos : ℕ) {end : ℕ} (z : ℕ) (ez : z ≡ subtree_
   second_size v ev x y ys d = ev ∙ (rw (← ez) at (rest_spans x (y ∷ ys) d)).stands.2
 
 -- The list by the sizes of its first and second tree.
-module _ {u : Node} {old : List ℕ} {pos end z : ℕ} (ez : z ≡ subtree_at old (pos + 1)) (n : end ≡ pos + 1 → ⊥) where
+module _ {u : Record} {old : List ℕ} {pos end z : ℕ} (ez : z ≡ subtree_at old (pos + 1)) (n : end ≡ pos + 1 → ⊥) where
   pub join_one : pos + 1 + z ≡ end → {new : List ℕ} {r : ℕ} → Becomes none_one_several_of u old new pos end r → Becomes join_kept_of u old new pos end r
   join_one e {new} {r} w = record { by = go }
     where
-      go : (ts : List Tree) → Spans old (pos + 1) end ts → Wrote old new pos r (join_kept (place_of (tree u)) ts)
-      go [] d = w.by [] d
-      go (x ∷ []) d = w.by (x ∷ []) d
-      go (x ∷ y ∷ ys) d = absurd (omega (arith, d.ends, d.stands.2))
+      go : (t : Tree) → head u ≡ t.head → (ts : List Tree) → Spans old (pos + 1) end ts → Wrote old new pos r (join_kept (place_of t) ts)
+      go t h [] d = w.by t h [] d
+      go t h (x ∷ []) d = w.by t h (x ∷ []) d
+      go t h (x ∷ y ∷ ys) d = absurd (omega (arith, d.ends, d.stands.2))
 
   module _ (ne : pos + 1 + z ≡ end → ⊥) where
     pub second_inside : GivenList u old pos end → pos + 1 + z + 1 ≤ records_in old
@@ -173,8 +173,8 @@ module _ {u : Node} {old : List ℕ} {pos end z : ℕ} (ez : z ≡ subtree_at ol
           go (x ∷ y ∷ []) d = record { a = x; b = y; pair = pair_of pos z ez x y d; inside = g.inside; small = g.small }
           go (x ∷ y ∷ c ∷ cs) d = absurd (omega (arith, d.ends, d.stands.2, second_size pos z ez v ev x y (c ∷ cs) d))
 
-      pub join_two : pos + 1 + z + v ≡ end → {new : List ℕ} {place : Place} {r : ℕ} → place ≡ (tree u).head.place → Joins old new pos (pos + 1 + z) end place r → Becomes join_kept_of u old new pos end r
-      join_two e {new} {place} {r} ep w = record { by = λ ts d. go (tree u) ep ts d }
+      pub join_two : pos + 1 + z + v ≡ end → {new : List ℕ} {place : Place} {r : ℕ} → place ≡ (head u).place → Joins old new pos (pos + 1 + z) end place r → Becomes join_kept_of u old new pos end r
+      join_two e {new} {place} {r} ep w = record { by = λ t h ts d. go t (ep ∙ ap (λ (x : Head). x.place) h) ts d }
         where
           go : (t : Tree) → place ≡ t.head.place → (ts : List Tree) → Spans old (pos + 1) end ts → Wrote old new pos r (join_kept (place_of t) ts)
           go t p [] d = absurd (n (omega (arith, d.ends)))
@@ -185,8 +185,8 @@ module _ {u : Node} {old : List ℕ} {pos end z : ℕ} (ez : z ≡ subtree_at ol
       pub join_several : (pos + 1 + z + v ≡ end → ⊥) → {new : List ℕ} {r : ℕ} → Becomes none_one_several_of u old new pos end r → Becomes join_kept_of u old new pos end r
       join_several e {new} {r} w = record { by = go }
         where
-          go : (ts : List Tree) → Spans old (pos + 1) end ts → Wrote old new pos r (join_kept (place_of (tree u)) ts)
-          go [] d = w.by [] d
-          go (x ∷ []) d = w.by (x ∷ []) d
-          go (x ∷ y ∷ []) d = absurd (e (omega (arith, d.ends, d.stands.2, second_size pos z ez v ev x y [] d)))
-          go (x ∷ y ∷ c ∷ cs) d = w.by (x ∷ y ∷ c ∷ cs) d
+          go : (t : Tree) → head u ≡ t.head → (ts : List Tree) → Spans old (pos + 1) end ts → Wrote old new pos r (join_kept (place_of t) ts)
+          go t h [] d = w.by t h [] d
+          go t h (x ∷ []) d = w.by t h (x ∷ []) d
+          go t h (x ∷ y ∷ []) d = absurd (e (omega (arith, d.ends, d.stands.2, second_size pos z ez v ev x y [] d)))
+          go t h (x ∷ y ∷ c ∷ cs) d = w.by t h (x ∷ y ∷ c ∷ cs) d

@@ -1,7 +1,7 @@
 // The arms of a conditional.
 ghost use Rattle.rewrite.specs.Arms.{GivenArms, JoinsArms};
 
-use readings::Node;
+use fields::Record;
 
 // "sub 1 for and, 2 for or"
 const AND: u8 = 1;
@@ -12,7 +12,7 @@ const OR: u8 = 2;
 // alternate, up to record end; one of the two is left at least. "a dropped consequent gives or, a dropped alternate and. Neither gone
 // keeps the conditional".
 pub fn join_arms(
-    node: Node,
+    node: Record,
     out: &mut [u8],
     pos: usize,
     arms: usize,
@@ -23,11 +23,11 @@ pub fn join_arms(
     ensures { JoinsArms node.entry out.old out.new pos arms middle end result }
 {
     if middle == arms {
-        crate::made::make_logical(out, pos, end, OR, node.record.place());
+        crate::made::make_logical(out, pos, end, OR, node.place());
         return end;
     }
     if end == middle {
-        crate::made::make_logical(out, pos, end, AND, node.record.place());
+        crate::made::make_logical(out, pos, end, AND, node.place());
         return end;
     }
     crate::close::stays_with(node, out, pos, end)

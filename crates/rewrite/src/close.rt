@@ -3,10 +3,9 @@ ghost use Rattle.rules.specs.Reduce.{stays_with};
 ghost use Rattle.rewrite.specs.Becomes.{GivenList, Becomes, list_of, none_one_several_of, sequence_if_any_of, array_of};
 
 use fields::Record;
-use readings::Node;
 
 // None leaves nothing, and several a sequence at the place of the node. One is itself where `alone` says so.
-fn close_list(node: Node, out: &mut [u8], pos: usize, end: usize, alone: bool) -> usize
+fn close_list(node: Record, out: &mut [u8], pos: usize, end: usize, alone: bool) -> usize
     requires { GivenList node out.old pos end }
     ensures { Becomes (list_of alone) node.entry out.old out.new pos end result }
 {
@@ -24,12 +23,12 @@ fn close_list(node: Node, out: &mut [u8], pos: usize, end: usize, alone: bool) -
         output::move_down(out, pos, one);
         return end - 1;
     }
-    crate::made::make_sequence(out, pos, end, node.record.place());
+    crate::made::make_sequence(out, pos, end, node.place());
     end
 }
 
 // "None: removable; one: itself; else a sequence".
-pub fn none_one_several(node: Node, out: &mut [u8], pos: usize, end: usize) -> usize
+pub fn none_one_several(node: Record, out: &mut [u8], pos: usize, end: usize) -> usize
     requires { GivenList node out.old pos end }
     ensures { Becomes none_one_several_of node.entry out.old out.new pos end result }
 {
@@ -37,7 +36,7 @@ pub fn none_one_several(node: Node, out: &mut [u8], pos: usize, end: usize) -> u
 }
 
 // Of a class: "None: removable. One or more: always a sequence."
-pub fn sequence_if_any(node: Node, out: &mut [u8], pos: usize, end: usize) -> usize
+pub fn sequence_if_any(node: Record, out: &mut [u8], pos: usize, end: usize) -> usize
     requires { GivenList node out.old pos end }
     ensures { Becomes sequence_if_any_of node.entry out.old out.new pos end result }
 {
@@ -45,7 +44,7 @@ pub fn sequence_if_any(node: Node, out: &mut [u8], pos: usize, end: usize) -> us
 }
 
 // The node over what is left of its children; "none is removable".
-pub fn stays_with(node: Node, out: &mut [u8], pos: usize, end: usize) -> usize
+pub fn stays_with(node: Record, out: &mut [u8], pos: usize, end: usize) -> usize
     requires { GivenList node out.old pos end }
     ensures { Becomes stays_with node.entry out.old out.new pos end result }
 {
@@ -58,12 +57,12 @@ pub fn stays_with(node: Node, out: &mut [u8], pos: usize, end: usize) -> usize
         children: n as u16,
         records: (end - pos) as u16,
     };
-    output::keep_at(node.record, out, pos, counts);
+    output::keep_at(node, out, pos, counts);
     end
 }
 
 // "One left stays a sequence of one; none is removable."
-pub fn remove_unused_sequence_expr(node: Node, out: &mut [u8], pos: usize, end: usize) -> usize
+pub fn remove_unused_sequence_expr(node: Record, out: &mut [u8], pos: usize, end: usize) -> usize
     requires { GivenList node out.old pos end }
     ensures { Becomes stays_with node.entry out.old out.new pos end result }
 {
@@ -71,7 +70,7 @@ pub fn remove_unused_sequence_expr(node: Node, out: &mut [u8], pos: usize, end: 
 }
 
 // "None left: removable. A spread left: stays an array. Else the one child, or a sequence at the array's place."
-pub fn remove_unused_array_expr(node: Node, out: &mut [u8], pos: usize, end: usize) -> usize
+pub fn remove_unused_array_expr(node: Record, out: &mut [u8], pos: usize, end: usize) -> usize
     requires { GivenList node out.old pos end }
     ensures { Becomes array_of node.entry out.old out.new pos end result }
 {

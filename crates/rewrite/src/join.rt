@@ -4,7 +4,6 @@ ghost use Rattle.rewrite.specs.Becomes.{GivenList, Becomes, join_kept_of};
 ghost use Rattle.rewrite.specs.Join.{GivenPair, Joins};
 
 use fields::{Kind, Place, Record};
-use readings::Node;
 
 // Two trees, behind record pos and at record second: "if a is a sequence, b is appended whole, even a sequence; else a sequence b
 // gets a in front; else the two make a sequence".
@@ -36,7 +35,7 @@ fn join_sequence(out: &mut [u8], pos: usize, second: usize, end: usize, place: P
 }
 
 // "two kept go to `join_sequence`"
-pub fn join_kept(node: Node, out: &mut [u8], pos: usize, end: usize) -> usize
+pub fn join_kept(node: Record, out: &mut [u8], pos: usize, end: usize) -> usize
     requires { GivenList node out.old pos end }
     ensures { Becomes join_kept_of node.entry out.old out.new pos end result }
 {
@@ -57,7 +56,7 @@ pub fn join_kept(node: Node, out: &mut [u8], pos: usize, end: usize) -> usize
         at: second,
     };
     if second + right.subtree() == end {
-        return join_sequence(out, pos, second, end, node.record.place());
+        return join_sequence(out, pos, second, end, node.place());
     }
     crate::close::none_one_several(node, out, pos, end)
 }

@@ -10,9 +10,9 @@ use Rattle.std.proofs.Math.ListN.{length}
 use Rattle.refusal.specs.declared.Refusal.{Refusal}
 use Rattle.refusal.specs.Number.{number_of}
 use Rattle.tree.specs.Tree.{Tree, forest, records, size}
-use Rattle.tree.specs.Layout.{Version, v1, v2, version_in, header_bytes}
+use Rattle.tree.specs.Layout.{header_bytes}
 use Rattle.tree.specs.Fields.{count_of}
-use Rattle.tree.specs.Refusal.{reduce_limits, program_limits, list_effects_limits, mark_ok, refusal}
+use Rattle.tree.specs.Refusal.{reduce_limits, list_effects_limits, mark_ok, refusal}
 use Rattle.tree.specs.Encoding.{Bytes}
 use Rattle.tree.proofs.Accepted.{passed, counted_parts, mark_long, accepted, wider}
 use Rattle.stated.specs.Stated.{Stated}
@@ -34,7 +34,7 @@ pub record GivenList (s : List ℕ) (room : ℕ) : Type 0 where
 
 -- An accepted file, and what is left of it.
 pub record GivenTable (s kept : List ℕ) : Type 0 where
-  pub accepted_is : refusal (program_limits (version_in s)) s ≡ 0
+  pub accepted_is : refusal reduce_limits s ≡ 0
   pub promised : Promised s
   pub kept_is : kept ≡ rewritten s
 
@@ -50,23 +50,16 @@ records_some : (s : List ℕ) → header_bytes ≤ length s → records_of s ≡
 unfolding records_of
 records_some s l = rw (le-ltb (length s) header_bytes l)
 
--- The file itself: Reduce's limits are wider.
-module _ (s : List ℕ) (e : refusal (program_limits (version_in s)) s ≡ 0) where
-  reducible : refusal reduce_limits s ≡ 0
-  reducible = go (version_in s) e
-    where
-      go : (v : Version) → refusal (program_limits v) s ≡ 0 → refusal reduce_limits s ≡ 0
-      go v1 z = z
-      go v2 z = wider (program_limits v2) reduce_limits (omega arith) (omega arith) (λ x. x) s z
-
+-- The file itself.
+module _ (s : List ℕ) (e : refusal reduce_limits s ≡ 0) where
   long : header_bytes ≤ length s
-  long = mark_long s (passed reduce_limits s reducible).mark
+  long = mark_long s (passed reduce_limits s e).mark
 
   pub file_taken : GivenList s 4000
   file_taken = record {
     taken = λ z.
-        listed s 4000 (wider reduce_limits list_effects_limits (omega arith) (omega arith) (λ _. refl) s reducible)
-        (omega (arith, (counted_parts 2000 s (passed reduce_limits s reducible).counted).few));
+        listed s 4000 (wider reduce_limits list_effects_limits (omega arith) (omega arith) (λ _. refl) s e)
+        (omega (arith, (counted_parts 2000 s (passed reduce_limits s e).counted).few));
   }
 
   pub file_effects : effects_of s ≡ effect_list s

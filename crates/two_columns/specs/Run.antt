@@ -39,17 +39,17 @@ unfolding is_refused
 none_refused [] x = true≢false x
 none_refused (t ∷ ts) x = true≢false x
 
--- Of a file that counts no more records of version 2 than are taken.
-module _ {s old new : List ℕ} {reduced : Result (Option ℕ) Refusal} (few : too_many s ≡ false) (room : length old ≡ most_output) (a : Answers s old new reduced) where
+module _ {s old new : List ℕ} {reduced : Result (Option ℕ) Refusal} (room : length old ≡ most_output) (a : Answers s old new reduced) where
   number_zero : number s (length old) ≡ refusal reduce_limits s
   number_zero = ap (number s) room ∙ number_is s
 
   answer : stated reduced ≡ stated_of (refusal reduce_limits s) s
   answer = a.answer ∙ ap (λ (k : ℕ). stated_of k s) number_zero
 
-  pub refused : {r : Refusal} → reduced ≡ Err r → number_of r ≡ refusal (program_limits (version_in s)) s
+  -- Of a file that counts no more records of version 2 than are taken.
+  pub refused : too_many s ≡ false → {r : Refusal} → reduced ≡ Err r → number_of r ≡ refusal (program_limits (version_in s)) s
   unfolding is_refused
-  refused {r} e = go (refusal reduce_limits s) (ap stated (sym e) ∙ answer) ∙ sym (within s few)
+  refused few {r} e = go (refusal reduce_limits s) (ap stated (sym e) ∙ answer) ∙ sym (within s few)
     where
       go : (k : ℕ) → refused_by (number_of r) ≡ stated_of k s → number_of r ≡ k
       go zero x = absurd (none_refused (left s) (ap (λ (y : Stated Case). is_refused y.case) x))
@@ -78,8 +78,12 @@ module _ {s old new : List ℕ} {reduced : Result (Option ℕ) Refusal} (few : t
         let bytes : new ≡ rewritten s ++ drop (length (rewritten s)) old = a.bytes ∙ ap (λ (k : ℕ). bytes_of k s old) (number_zero ∙ accepted_is) in
         ap₂ take length_is bytes ∙ take-append_seam (rewritten s) (drop (length (rewritten s)) old)
 
+    -- Of a file that counts no more records of version 2 than are taken.
+    pub accepted : too_many s ≡ false → refusal (program_limits (version_in s)) s ≡ 0
+    accepted few = within s few ∙ accepted_is
+
     pub given : GivenTable s (take (unwrap_or kept 0) new)
-    given = record { accepted_is = within s few ∙ accepted_is; promised = a.promised (number_zero ∙ accepted_is); kept_is = written }
+    given = record { accepted_is = accepted_is; promised = a.promised (number_zero ∙ accepted_is); kept_is = written }
 
 -- The text of a file that is refused, and of one that is not.
 module _ (s : List ℕ) where

@@ -5,7 +5,7 @@ mod limit;
 mod line;
 mod table;
 
-ghost use Rattle.std.specs.Prelude.{◌≡◌, IfErr, IfOk};
+ghost use Rattle.std.specs.Prelude.{◌≡◌, IfErr, IfOk, OnOk};
 ghost use Rattle.refusal.specs.Number.{number_of};
 ghost use Rattle.tree.specs.Layout.{version_in};
 ghost use Rattle.tree.specs.Refusal.{program_limits, refusal};
@@ -36,6 +36,7 @@ pub fn write_columns(src: &[u8], text: &mut Text)
 // What is left of the tree file src: a file, or nothing.
 fn reduce<'a>(src: &[u8], kept: &'a mut [u8; reducer::MOST_OUTPUT]) -> Result<&'a [u8], Refusal>
     ensures given { IfOk result (λ left. GivenTable src.now left.now) }
+    ensures accepted { OnOk result (refusal (program_limits (version_in src.now)) src.now ≡ 0) }
     ensures number { IfErr result (λ r. number_of r ≡ refusal (program_limits (version_in src.now)) src.now) }
 {
     limit::check_count(src)?;

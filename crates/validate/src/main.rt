@@ -4,7 +4,7 @@
 
 use file::{Accepted, Limits};
 use refusal::Refusal;
-use std::io::Stdout;
+use std::io::{Stdout, Write};
 
 fn main(rt: HostRuntime) {
     let mut input = [0u8; 40009];
@@ -12,15 +12,12 @@ fn main(rt: HostRuntime) {
     print_answer(&mut rt.stdout(), file::check(&input[..n], Limits::REDUCE));
 }
 
+// A write that fails is passed over.
 fn print_answer(stdout: &mut Stdout, answer: Result<Accepted, Refusal>) {
-    match answer {
+    let _ = match answer {
         Ok(Accepted { settings, count }) => {
-            streams::write_all(stdout, b"accepted settings ");
-            streams::print_decimal(stdout, u64::from(settings));
-            streams::print_number(stdout, b" records ", count as u64);
+            writeln!(stdout, "accepted settings {settings} records {count}")
         }
-        Err(refusal) => {
-            streams::print_number(stdout, b"refused ", u64::from(refusal.number()));
-        }
-    }
+        Err(refusal) => writeln!(stdout, "{refusal}"),
+    };
 }

@@ -1,5 +1,6 @@
-use Rattle.std.proofs.Common.{arith}
+use Rattle.std.proofs.Common.{refl, arith}
 use Rattle.rules.specs.Class.{extracted}
+use Rattle.readings.specs.At.{tree_at}
 use Rattle.readings.specs.View.{tree}
 use Rattle.output.specs.Trees.{wrote_over}
 use Rattle.classes.specs.Class.{Parts, first_ends, first_given, gives_up, list_given, others_given, parts_size}
@@ -25,8 +26,9 @@ sequence_if_any-requires c =
     list_given k c.requires h.ensures.first h.ensures.others c.copy_if_flagged-first.ensures c.extract_elements-next.ensures
 
 pub returns : goal.returns
+unfolding tree_at
 returns c =
     let h = c.heritage_and_elements in
     let k : Parts c.args.node _ h.result.0 h.result.1 = record { first = h.ensures.first; others = h.ensures.others; source = h.ensures.source } in
     let w = gives_up k c.requires h.ensures.first h.ensures.others c.copy_if_flagged-first.ensures c.extract_elements-next.ensures in
-    wrote_over w (omega arith) (c.sequence_if_any.ensures.by (extracted (tree c.args.node)) w.spans)
+    wrote_over w (omega arith) (c.sequence_if_any.ensures.by (tree c.args.node) refl (extracted (tree c.args.node)) w.spans)

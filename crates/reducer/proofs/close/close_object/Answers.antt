@@ -1,5 +1,4 @@
 use Rattle.tree.specs.Room.{place_said}
-use Rattle.readings.specs.At.{tree_at}
 use Rattle.rules.specs.Made.{make_object}
 use Rattle.reducer.specs.Close.{closing_list, closed}
 use Rattle.reducer.proofs.close.close_object.Goals as goal
@@ -8,7 +7,6 @@ pub none_one_several-requires : goal.none_one_several-requires
 none_one_several-requires c = closing_list make_object c.flush_object.ensures c.requires
 
 pub returns : goal.returns
-unfolding tree_at
 returns c =
-    let place = place_said c.args.node.record.src.now c.args.out.now c.args.node.record.at c.requires.same c.place.ensures in
-    closed {u = c.args.node} make_object c.flush_object.ensures place c.none_one_several.ensures
+    let place = place_said c.args.node.src.now c.args.out.now c.args.node.at c.requires.same c.place.ensures in
+    closed make_object c.flush_object.ensures place c.none_one_several.ensures

@@ -1,23 +1,20 @@
 use Rattle.tree.specs.Room.{place_said}
 use Rattle.rewrite.specs.Arms.{arms_list, arms_made, consequent_gone, alternate_gone, both_stay}
-use Rattle.readings.specs.At.{tree_at}
 use Rattle.rewrite.proofs.arms.join_arms.Goals as goal
 
 pub make_logical-requires : goal.make_logical-requires
 make_logical-requires c = arms_made c.requires
 
 pub returns-then-middle-arms : goal.returns-then-middle-arms
-unfolding tree_at
 returns-then-middle-arms c =
-    consequent_gone {u = c.args.node} (place_said c.args.node.record.src.now c.args.out.now c.args.node.record.at c.requires.same c.place.ensures) c.if-middle-arms.true c.requires.some c.make_logical.ensures
+    consequent_gone (place_said c.args.node.src.now c.args.out.now c.args.node.at c.requires.same c.place.ensures) c.if-middle-arms.true c.requires.some c.make_logical.ensures
 
 pub make_logical-requires-then-end-middle : goal.make_logical-requires-then-end-middle
 make_logical-requires-then-end-middle c = arms_made c.requires
 
 pub returns-then-end-middle : goal.returns-then-end-middle
-unfolding tree_at
 returns-then-end-middle c =
-    alternate_gone {u = c.args.node} (place_said c.args.node.record.src.now c.args.out.now c.args.node.record.at c.requires.same c.place-then-end-middle.ensures) c.if-middle-arms.false c.if-end-middle.true
+    alternate_gone (place_said c.args.node.src.now c.args.out.now c.args.node.at c.requires.same c.place-then-end-middle.ensures) c.if-middle-arms.false c.if-end-middle.true
     c.make_logical-then-end-middle.ensures
 
 pub stays_with-requires : goal.stays_with-requires

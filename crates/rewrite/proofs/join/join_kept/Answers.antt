@@ -1,6 +1,5 @@
 use Rattle.tree.specs.Room.{place_said}
 use Rattle.rewrite.specs.Join.{join_one, second_inside, pair_given, join_two, join_several}
-use Rattle.readings.specs.At.{tree_at}
 use Rattle.rewrite.proofs.join.join_kept.Goals as goal
 
 pub returns-then-second-end : goal.returns-then-second-end
@@ -13,10 +12,9 @@ pub join_sequence-requires : goal.join_sequence-requires
 join_sequence-requires c = pair_given c.subtree.ensures.0 c.if-end-first.false c.if-second-end.false _ c.subtree-2.ensures.0 c.if-second-subtree.true c.requires
 
 pub returns-then-second-subtree : goal.returns-then-second-subtree
-unfolding tree_at
 returns-then-second-subtree c =
-    join_two {u = c.args.node} c.subtree.ensures.0 c.if-end-first.false c.if-second-end.false _ c.subtree-2.ensures.0 c.if-second-subtree.true
-    (place_said c.args.node.record.src.now c.args.out.now c.args.node.record.at c.requires.same c.place.ensures)
+    join_two c.subtree.ensures.0 c.if-end-first.false c.if-second-end.false _ c.subtree-2.ensures.0 c.if-second-subtree.true
+    (place_said c.args.node.src.now c.args.out.now c.args.node.at c.requires.same c.place.ensures)
     c.join_sequence.ensures
 
 pub returns : goal.returns

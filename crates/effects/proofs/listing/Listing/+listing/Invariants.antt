@@ -1,8 +1,7 @@
-use Rattle.std.proofs.Common.{ℕ, ◌+◌, ◌*◌}
-use Rattle.rules.specs.Effects.{effects}
+use Rattle.std.proofs.Common.{ℕ, ◌+◌, ◌*◌, ◌++◌}
+use Rattle.rules.specs.Effects.{coercion, effects, evaluate}
 use Rattle.readings.specs.Given.{given}
 use Rattle.readings.specs.View.{left}
-use Rattle.effects.specs.Listing.{part_of}
 use Rattle.effects.specs.Walking.{Walking, weight}
 use Rattle.effects.proofs.listing.Listing.+listing.Given as goal
 
@@ -34,11 +33,14 @@ decreases-list_any l = by l.depth 3
 abbrev pub decreases-list_side : goal.decreases-list_side
 decreases-list_side l = by l.depth 3
 
-abbrev pub decreases-list_part : goal.decreases-list_part
-decreases-list_part l = by l.depth 4
+abbrev pub decreases-list_coerced : goal.decreases-list_coerced
+decreases-list_coerced l = by l.depth 4
 
-abbrev pub decreases-list_parts : goal.decreases-list_parts
-decreases-list_parts l = by l.depth 5
+abbrev pub decreases-list_keys : goal.decreases-list_keys
+decreases-list_keys l = by l.depth 0
+
+abbrev pub decreases-list_statics : goal.decreases-list_statics
+decreases-list_statics l = by l.depth 1
 
 abbrev pub invariant-list_children-loop-node : goal.invariant-list_children-loop-node
 invariant-list_children-loop-node l = Walking (effects (given l.fn.self.settings)) l.depth (left l.list) l.fn.self (left l.walk) l.self
@@ -46,5 +48,14 @@ invariant-list_children-loop-node l = Walking (effects (given l.fn.self.settings
 abbrev pub decreases-list_children-loop-node : goal.decreases-list_children-loop-node
 decreases-list_children-loop-node l = weight (left l.walk)
 
-abbrev pub invariant-list_parts-loop-node : goal.invariant-list_parts-loop-node
-invariant-list_parts-loop-node l = Walking (part_of l.part (given l.fn.self.settings)) l.depth (left l.list) l.fn.self (left l.node-iterator) l.self
+abbrev pub invariant-list_coerced-loop-node : goal.invariant-list_coerced-loop-node
+invariant-list_coerced-loop-node l =
+    Walking (λ c. effects (given l.fn.self.settings) c ++ coercion c) l.depth (left l.list) l.fn.self (left l.node-iterator) l.self
+
+abbrev pub invariant-list_keys-loop-element : goal.invariant-list_keys-loop-element
+invariant-list_keys-loop-element l =
+    Walking (λ e. (evaluate (given l.fn.self.settings) e).key) l.depth (left l.elements) l.fn.self (left l.element-iterator) l.self
+
+abbrev pub invariant-list_statics-loop-element : goal.invariant-list_statics-loop-element
+invariant-list_statics-loop-element l =
+    Walking (λ e. (evaluate (given l.fn.self.settings) e).static) l.depth (left l.elements) l.fn.self (left l.element-iterator) l.self

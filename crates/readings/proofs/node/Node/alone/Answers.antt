@@ -5,5 +5,5 @@ use Rattle.readings.proofs.node.Node.alone.Goals as goal
 pub invariant_of-result : goal.invariant_of-result
 invariant_of-result c = record { ordered = omega arith; held = alone_held _ _ _ c.args.self.stands c.size.ensures.records }
 
-pub returns : goal.returns
-returns c = alone_trees _ _ _ c.args.self.stands c.size.ensures.records
+pub returns-clause-trees : goal.returns-clause-trees
+returns-clause-trees c = alone_trees _ _ _ c.args.self.stands c.size.ensures.records

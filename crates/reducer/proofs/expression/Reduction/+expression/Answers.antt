@@ -2,6 +2,7 @@ use Rattle.std.specs.Prelude.{refl, drop, ◌-◌, ◌≤◌}
 use Rattle.std.proofs.Common.{ap, arith, sym, ◌∙◌}
 use Rattle.tree.specs.Tree.{forest, forest_trees, one, records, size}
 use Rattle.rules.proofs.Lists.{all_drop}
+use Rattle.readings.specs.At.{tree_at}
 use Rattle.readings.specs.Given.{given}
 use Rattle.readings.specs.View.{tree}
 use Rattle.effects.specs.Listing.{listable_kids, some_level}
@@ -35,6 +36,7 @@ reduce_child-settle-requires t c =
     given_settle c.requires c.args.part (given c.args.self.now.settings) left.wrote
 
 pub reduce_child-returns : goal.reduce_child-returns
+unfolding tree_at
 reduce_child-returns t c =
     let left : Reduced c.args.self.now c.if-wraps.self c.args.waiting.next c.if-wraps.end (left_of c.args.part (given c.args.self.now.settings) (tree c.args.node)) =
     elim c.if-wraps.branch [
@@ -81,7 +83,7 @@ pub reduce_rewritten-returns-in-Sequence : goal.reduce_rewritten-returns-in-Sequ
 reduce_rewritten-returns-in-Sequence t c =
     let a = (walked_as rewrites.Sequence c.part_under-part.ensures c.in-Sequence.is (rw c.children.ensures.trees at c.reduce_children-waiting.ensures)) in
     record {
-      wrote = outcome_done (outcomes.Rewritten rewrites.Sequence) (as_made rewrites.Sequence c.in-Sequence.is c.requires.handles) (becomes_left c.remove_unused_sequence_expr.ensures _ (in_order_wrote a));
+      wrote = outcome_done (outcomes.Rewritten rewrites.Sequence) (as_made rewrites.Sequence c.in-Sequence.is c.requires.handles) (becomes_left c.args.node c.remove_unused_sequence_expr.ensures _ (in_order_wrote a));
       stays = stays_both a.stays (stays_written _ c.remove_unused_sequence_expr.auto.out);
     }
 
@@ -94,7 +96,7 @@ pub reduce_rewritten-returns-in-Array : goal.reduce_rewritten-returns-in-Array
 reduce_rewritten-returns-in-Array t c =
     let a = (walked_as rewrites.Array c.part_under-part.ensures c.in-Array.is (rw c.children.ensures.trees at c.reduce_children-waiting.ensures)) in
     record {
-      wrote = outcome_done (outcomes.Rewritten rewrites.Array) (as_made rewrites.Array c.in-Array.is c.requires.handles) (becomes_left c.remove_unused_array_expr.ensures _ (in_order_wrote a));
+      wrote = outcome_done (outcomes.Rewritten rewrites.Array) (as_made rewrites.Array c.in-Array.is c.requires.handles) (becomes_left c.args.node c.remove_unused_array_expr.ensures _ (in_order_wrote a));
       stays = stays_both a.stays (stays_written _ c.remove_unused_array_expr.auto.out);
     }
 
@@ -107,7 +109,7 @@ pub reduce_rewritten-returns-in-Comparison : goal.reduce_rewritten-returns-in-Co
 reduce_rewritten-returns-in-Comparison t c =
     let a = (walked_as rewrites.Comparison c.part_under-part.ensures c.in-Comparison.is (rw c.children.ensures.trees at c.reduce_children-waiting.ensures)) in
     record {
-      wrote = outcome_done (outcomes.Rewritten rewrites.Comparison) (as_made rewrites.Comparison c.in-Comparison.is c.requires.handles) (becomes_left c.join_kept.ensures _ (in_order_wrote a));
+      wrote = outcome_done (outcomes.Rewritten rewrites.Comparison) (as_made rewrites.Comparison c.in-Comparison.is c.requires.handles) (becomes_left c.args.node c.join_kept.ensures _ (in_order_wrote a));
       stays = stays_both a.stays (stays_written _ c.join_kept.auto.out);
     }
 
@@ -274,6 +276,6 @@ remove_unused_expression-returns-in-Arguments t c =
     let e = others c.children-arguments.result w c.next.result c.next.ensures.steps.0 ∙ ap (drop 1) c.children-arguments.ensures.trees in
     let a = rw e at c.reduce_children-waiting-in-Arguments.ensures in
     record {
-      wrote = outcome_done outcomes.Arguments (as_outcome outcomes.Arguments c.requires.listable c.handle.ensures c.in-Arguments.is) (becomes_left c.none_one_several.ensures _ (arguments_wrote a));
+      wrote = outcome_done outcomes.Arguments (as_outcome outcomes.Arguments c.requires.listable c.handle.ensures c.in-Arguments.is) (becomes_left c.args.node c.none_one_several.ensures _ (arguments_wrote a));
       stays = stays_both a.stays (stays_written _ c.none_one_several.auto.out);
     }
