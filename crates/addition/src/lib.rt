@@ -35,7 +35,7 @@ fn empty_unless_flagged(out: &mut [u8], at: usize, next: usize) -> usize
         return next;
     }
     let empty = MadeHead {
-        kind: Kind::Literal,
+        kind: u8::from(Kind::Literal),
         sub: 0,
         facts: 18,
         place: side.place(),
@@ -62,7 +62,7 @@ fn fold_right(node: Node, out: &mut [u8], pos: usize) -> usize
     requires { GivenTree node out.old pos }
     ensures { Wrote out.old out.new pos result (folded_right (tree node.entry) ∷ []) }
 {
-    let next = output::copy_tree(node, out, pos);
+    let next = output::copy_node(node, out, pos);
     if node.record.has_string_fact() {
         return empty_unless_flagged(out, pos, next);
     }
@@ -93,7 +93,7 @@ fn fold_sides(node: Node, right: Node, out: &mut [u8], pos: usize, left: Folded)
             output::move_down(out, pos, next - pos - 1);
             return next - 1;
         }
-        let end = output::copy_tree(right, out, next);
+        let end = output::copy_node(right, out, next);
         keep_over(node, out, pos, end);
         return end;
     }
@@ -116,7 +116,7 @@ fn fold_string_addition_chain(node: Node, out: &mut [u8], pos: usize) -> Folded
             Folded { next, string }
         }
         None => {
-            let next = output::copy_tree(node, out, pos);
+            let next = output::copy_node(node, out, pos);
             let string = node.record.has_string_fact();
             Folded { next, string }
         }

@@ -20,7 +20,7 @@ fn copy_if_flagged(node: Option<Node>, out: &mut [u8], pos: usize) -> usize
     ensures { Wrote out.old out.new pos result (filter flagged (option_to_list (option_map tree node.entry))) }
 {
     match node {
-        Some(node) if node.is_flagged() => output::copy_tree(node, out, pos),
+        Some(node) if node.is_flagged() => output::copy_node(node, out, pos),
         _ => pos,
     }
 }

@@ -2,7 +2,8 @@
 use Rattle.std.specs.Prelude.{◌≡◌, refl, Bool, true, false, cond, ◌&&◌, ◌||◌, List, [], ◌++◌, ◌⊎◌, ℕ, suc, ◌+◌, ◌/◌, ◌%◌, ◌^◌, ◌<◌, ◌≤◌, eqb, leb}
 use Rattle.std.proofs.Common.{sym, ◌∙◌, true≢false, append-nil, inl, inr, ⊎_elim, ne_eqb, eqb-true, arith}
 use Rattle.std.proofs.lemmas.Bool.{lt-leb}
-use Rattle.tree.specs.Tree.{Forest, nil, node, Tree, trees, count}
+use Rattle.tree.specs.Tree.{Forest, nil, node, Tree, alone, trees, count}
+use Rattle.tree.specs.Fields.{head_at}
 use Rattle.tree.specs.Below.{all_below, all_at, and_fails, lt_or_le}
 use Rattle.tree.specs.Children.{child_count_ok, node_ok}
 use Rattle.tree.specs.Stands.{node_parts}
@@ -12,6 +13,7 @@ use Rattle.rules.specs.Settings.{Settings, derived}
 use Rattle.rules.specs.Handler.{Handler, handler}
 use Rattle.rules.specs.Facts.{flagged}
 use Rattle.rules.specs.Effects.{effects, effects_of, itself_if}
+use Rattle.readings.specs.At.{tree_at}
 use Rattle.rules.proofs.Unfold.{in_order_is}
 use Rattle.rules.proofs.Effects.{own}
 use Rattle.effects.specs.Plan.{is_passed}
@@ -63,6 +65,11 @@ own_is flag this some kinds (inr (a, b)) (inr (c, d)) k l = rw (a, c, d, b) (own
 -- Whether a node that is passed is listed itself.
 unfoldable pub passed_itself : Settings → Tree → Bool
 passed_itself s t = own_by (flagged t) (derived s) t.head.kind
+
+-- A record alone tells it of the tree that stands there.
+pub own_passed : (g : Settings) (s : List ℕ) (i : ℕ) → passed_itself g (alone (head_at s i)) ≡ passed_itself g (tree_at s i)
+unfolding passed_itself flagged tree_at
+own_passed g s i = refl
 
 no_children : (f : Forest) → eqb (count f) 0 ≡ true → trees f ≡ []
 no_children nil e = refl

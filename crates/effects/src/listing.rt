@@ -33,9 +33,9 @@ impl Listing<'_> {
     {
         let mut walk = list;
         while let Some(node) = walk.first() {
-            if plan::is_passed(node) {
-                let itself = plan::passed_itself(node, self.settings);
-                self.list_if(node, itself, Effect::Itself);
+            if plan::is_passed(node.record) {
+                let itself = plan::passed_itself(node.record, self.settings);
+                self.list_if(node.record, itself, Effect::Itself);
                 walk.enter();
             } else {
                 walk.next();
@@ -83,7 +83,7 @@ impl Listing<'_> {
     }
 
     // The static value of a class element, or its block.
-    #[tactic(auto, using(readings::specs::Alone::own, crate::specs::Listing::steps, rules::proofs::Effects::static_is))]
+    #[tactic(auto, using(readings::specs::Alone::own, crate::specs::Entry::own, crate::specs::Listing::steps, rules::proofs::Effects::static_is))]
     #[cycle(listing)]
     fn list_static(&mut self, node: Node, depth: usize)
         requires listable { Listable depth (tree node) }
@@ -95,7 +95,7 @@ impl Listing<'_> {
             self.list_children(value, depth - 1);
         }
         let block = readings::nonempty_static_block(node.record);
-        self.list_if(node, block, Effect::Itself);
+        self.list_if(node.record, block, Effect::Itself);
     }
 
     // A tree, if there is one.
@@ -111,7 +111,7 @@ impl Listing<'_> {
     }
 
     // An expression that is not passed, by its plan.
-    #[tactic(auto, using(crate::specs::Listing::steps, crate::specs::Plan::planned_as, crate::specs::Plan::plan_addition))]
+    #[tactic(auto, using(crate::specs::Entry::own, crate::specs::Listing::steps, crate::specs::Plan::planned_as, crate::specs::Plan::plan_addition))]
     #[cycle(listing)]
     fn list_expr(&mut self, node: Node, depth: usize)
         requires inner { is_passed (tree node).head.kind ≡ false }
@@ -125,7 +125,7 @@ impl Listing<'_> {
             Plan::Nothing => {}
             Plan::Children(when) => {
                 self.list_children(children, below);
-                self.list_if(node, when, Effect::Itself);
+                self.list_if(node.record, when, Effect::Itself);
             }
             Plan::Coerced => self.list_coerced(children, below),
             Plan::Arguments => {
@@ -196,7 +196,7 @@ impl Listing<'_> {
             self.list_coercion(left, first);
             return true;
         }
-        self.list_if(node, node.is_flagged(), Effect::Itself);
+        self.list_if(node.record, node.is_flagged(), Effect::Itself);
         false
     }
 
@@ -210,7 +210,7 @@ impl Listing<'_> {
         let below = depth - 1;
         let (heritage, elements) = node.heritage_and_elements();
         self.list_any(heritage, below);
-        self.list_if(node, node.class_is_effect(), Effect::Itself);
+        self.list_if(node.record, node.class_is_effect(), Effect::Itself);
         self.list_keys(elements, below);
         self.list_statics(elements, below);
     }

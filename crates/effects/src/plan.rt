@@ -1,11 +1,12 @@
 // What the effect list of a node is made of, by its kind, its facts, the settings and the places that count as yes.
 ghost use Rattle.std.specs.Prelude.{◌≡◌, true};
+ghost use Rattle.fields.specs.Record.{head, node};
 ghost use Rattle.readings.specs.Given.{given};
 ghost use Rattle.readings.specs.View.{tree};
 ghost use Rattle.effects.specs.Plan.{is_passed, plan};
 ghost use Rattle.effects.specs.Passed.{passed_itself};
 
-use fields::Kind;
+use fields::{Kind, Record};
 use readings::{Node, Settings};
 
 #[derive(Clone, Copy)]
@@ -67,10 +68,10 @@ const LEAVES: usize = 0b11_1110;
 
 const THIS: usize = 0b100_0000;
 
-pub fn is_passed(node: Node) -> bool
-    ensures { result ≡ is_passed (tree node.entry).head.kind }
+pub fn is_passed(root: Record) -> bool
+    ensures { result ≡ is_passed (head root.entry).kind }
 {
-    let kind = node.record.kind();
+    let kind = root.kind();
     if 31 < kind {
         return false;
     }
@@ -78,15 +79,15 @@ pub fn is_passed(node: Node) -> bool
 }
 
 // Whether a node that is passed is listed itself. By numbers rather than a test by kind, which would often be mispredicted.
-pub fn passed_itself(node: Node, settings: Settings) -> bool
-    requires { is_passed (tree node).head.kind ≡ true }
-    ensures { result ≡ passed_itself (given settings.entry) (tree node.entry) }
+pub fn passed_itself(root: Record, settings: Settings) -> bool
+    requires { is_passed (head root).kind ≡ true }
+    ensures { result ≡ passed_itself (given settings.entry) (node root.entry) }
 {
-    let flagged = if node.is_flagged() { LEAVES } else { 0 };
+    let flagged = if readings::flagged(root) { LEAVES } else { 0 };
     let kinds = if settings.derived() {
         flagged + THIS
     } else {
         flagged
     };
-    (kinds >> node.record.kind()) % 2 == 1
+    (kinds >> root.kind()) % 2 == 1
 }

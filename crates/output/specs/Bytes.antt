@@ -1,7 +1,6 @@
 -- What copying, moving and making records leaves of a buffer's bytes.
 use Rattle.std.specs.Prelude.{◌≡◌, refl, ◌≢◌, ◌⊎◌, List, ℕ, ◌+◌, ◌-◌, ◌<◌, ◌≤◌, length, get_or, set}
-use Rattle.std.proofs.Common.{◌∙◌, inl, inr, arith, length-set, get_or-set_same, get_or-set_other}
-use Rattle.std.specs.List.{CopiedTo, SameBelow, SameFrom}
+use Rattle.std.proofs.Common.{ap, ◌∙◌, inl, inr, ⊎_elim, arith, eq-or-lt_of_le, length-set, get_or-set_same, get_or-set_other}
 use Rattle.le.specs.Le.{u16_at, u32_at, set16, set32}
 use Rattle.le.specs.Laws.{u16_same, u32_same, u16_set16, u32_set32, get_d_set16_other, get_d_set32_other, length_set16}
 use Rattle.tree.specs.Tree.{Place}
@@ -105,13 +104,54 @@ head_same v {s} {s'} i j e e' w a b =
     let p = place_copied v (start v i) (start v j) b in
     rw (e, e') (λ x. record { kind = k x; facts = f x; sub = u x; reserved = r x; text = t x; place = p x })
 
--- What `copy_within` says: n bytes of the buffer itself were copied.
-pub moved_within : {old new : List ℕ} {from to n : ℕ} → CopiedTo old new from to n × SameBelow old new to × SameFrom old new (to + n) → Moved old from n old new to
-moved_within {from = from} {to = to} m = record {
-  there = record { same = λ k l. let e : from + (to + k - to) ≡ from + k = omega arith in rw (← e) (m.0 (to + k) 0 (omega arith) (omega arith)) };
-  below = record { same = λ k l. m.1 k 0 l };
-  above = record { same = λ k l. m.2 k 0 l };
+-- The copy, a byte at a time.
+pub moved_none : (s : List ℕ) (p : ℕ) (old : List ℕ) (q : ℕ) → Moved s p 0 old old q
+moved_none s p old q = record {
+  there = record { same = λ k l. absurd (omega arith) };
+  below = agree_all old q;
+  above = record { same = λ k l. refl };
 }
+
+pub moved_more : {s : List ℕ} {p i : ℕ} {old out : List ℕ} {q : ℕ} → Moved s p i old out q → q + i < length out → Moved s p (i + 1) old (set out (q + i) (get_or s (p + i) 0)) q
+moved_more {s} {p} {i} {old} {out} {q} m h = record {
+  there = record {
+    same = λ k l.
+        ⊎_elim (λ (e : k ≡ i). rw e (get_or-set_same out (q + i) _ 0 h))
+        (λ (e : k < i). let n : q + k ≢ q + i = omega arith in rw get_or-set_other (m.there.same k e)) (eq-or-lt_of_le (omega arith));
+  };
+  below = record { same = λ k l. let n : k ≢ q + i = omega arith in rw get_or-set_other (m.below.same k l) };
+  above = record { same = λ k l. let n : k ≢ q + i = omega arith in rw get_or-set_other (m.above.same k (omega arith)) };
+}
+
+-- The move down by w, a byte at a time: those up to byte q of the buffer have been moved.
+pub record Shifting (old new : List ℕ) (to q w : ℕ) : Type 0 where
+  pub shifted : Moved old (to + w) (q - to) old new to
+  pub ahead : to ≤ q
+
+pub shifting_none : (old : List ℕ) (to w : ℕ) → Shifting old old to to w
+shifting_none old to w = record {
+  shifted = record { there = record { same = λ k l. absurd (omega arith) }; below = agree_all old to; above = record { same = λ k l. refl } };
+  ahead = omega arith;
+}
+
+pub shifting_more : {old new : List ℕ} {to q w : ℕ} → Shifting old new to q w → q < length new → Shifting old (set new q (get_or new (q + w) 0)) to (q + 1) w
+shifting_more {old} {new} {to} {q} {w} m h =
+    let a = m.ahead in
+    let there : (k : ℕ) → k < q + 1 - to → get_or (set new q (get_or new (q + w) 0)) (to + k) 0 ≡ get_or old (to + w + k) 0 =
+    λ k l.
+    ⊎_elim (λ (e : k ≡ q - to).
+    let x : to + k ≡ q = omega arith in
+    let y : q + w ≡ to + w + k = omega arith in
+    rw x (get_or-set_same new q _ 0 h ∙ m.shifted.above.same (q + w) (omega arith) ∙ ap (λ (j : ℕ). get_or old j 0) y))
+    (λ (e : k < q - to). let n : to + k ≢ q = omega arith in rw get_or-set_other (m.shifted.there.same k e)) (eq-or-lt_of_le (omega arith)) in
+    record {
+      shifted = record {
+        there = record { same = there };
+        below = record { same = λ k l. let n : k ≢ q = omega arith in rw get_or-set_other (m.shifted.below.same k l) };
+        above = record { same = λ k l. let n : k ≢ q = omega arith in rw get_or-set_other (m.shifted.above.same k (omega arith)) };
+      };
+      ahead = omega arith;
+    }
 
 pub patched : {old mid new : List ℕ} {n z : ℕ} → mid ≡ set16 old offset.children n → new ≡ set16 mid offset.subtree z → offset.end ≤ length old → Patched old new n z
 patched {old} {mid} {new} {n} {z} e f h =

@@ -1,7 +1,7 @@
 -- Lists of trees that stand in a buffer, from one record to another, as writing leaves them.
 use Rattle.std.specs.Prelude.{◌≡◌, refl, List, [], ◌∷◌, ◌++◌, ℕ, suc, ◌+◌, ◌≤◌, length}
 use Rattle.std.proofs.Common.{sym, ap, subst, ◌∙◌, arith}
-use Rattle.tree.specs.Tree.{Head, Forest, nil, node, Tree, trees, forest, count, records, forest_trees}
+use Rattle.tree.specs.Tree.{Head, Forest, nil, node, Tree, trees, forest, one, count, records, forest_trees}
 use Rattle.tree.specs.Stands.{Stands}
 use Rattle.output.specs.Records.{Before, Behind, CopiedRecords, MovedRecords, Recorded, before_less, before_trans, before_copied, behind_copied, copied_records, head_copied, children_copied, subtree_copied}
 
@@ -14,6 +14,12 @@ pub record Spans (s : List ℕ) (p e : ℕ) (ts : List Tree) : Type 0 where
 pub record Wrote (old new : List ℕ) (pos next : ℕ) (ts : List Tree) : Type 0 where
   pub spans : Spans new pos next ts
   pub frame : Before old new pos
+
+-- Whatever tree stands at record `at` of s, it was written from record pos to record r.
+pub record CopiedTree (s : List ℕ) (at size : ℕ) (old new : List ℕ) (pos r : ℕ) : Type 0 where
+  pub by : (t : Tree) → Stands s at (one t) → size ≡ suc (records t.kids) → Wrote old new pos r (t ∷ [])
+  pub frame : Before old new pos
+  pub ends : r ≡ pos + size
 
 -- A list stands where its bytes are copied to.
 pub stands_copied : (f : Forest) {s s' : List ℕ} (i j : ℕ) → CopiedRecords s i s' j (records f) → Stands s i f → Stands s' j f
@@ -79,6 +85,19 @@ wrote_over {pos = pos} x l y = record { spans = y.spans; frame = before_trans (b
 
 pub wrote_as : {old new : List ℕ} {pos next : ℕ} {a b : List Tree} → Wrote old new pos next a → a ≡ b → Wrote old new pos next b
 wrote_as {old} {new} {pos} {next} w e = subst (λ (l : List Tree). Wrote old new pos next l) e w
+
+pub copied_tree : {s : List ℕ} {at size : ℕ} {old new : List ℕ} {pos : ℕ} → MovedRecords s at size old new pos → CopiedTree s at size old new pos (pos + size)
+copied_tree {s} {at} {size} {old} {new} {pos} m = record {
+  by = λ t d e. record {
+    spans = record {
+      stands = stands_copied (one t) at pos (let z : size ≡ suc (records t.kids + 0) = omega arith in rw z at m.there) d;
+      ends = omega arith;
+    };
+    frame = m.below;
+  };
+  frame = m.below;
+  ends = refl;
+}
 
 -- Trees of the input, by the records they take.
 pub copied_trees : {s : List ℕ} {at n : ℕ} {old new : List ℕ} {pos : ℕ} (f : Forest) → Stands s at f → n ≡ records f → MovedRecords s at n old new pos → Wrote old new pos (pos + n) (trees f)

@@ -6,5 +6,6 @@ mod record;
 
 pub use list::{any_flagged, any_spread, count_trees};
 pub use record::{
-    Counts, MadeHead, copy_bytes, copy_records, copy_tree, copy_trees, keep_at, make_at, move_down,
+    Counts, MadeHead, copy_bytes, copy_node, copy_records, copy_tree, copy_trees, keep_at, make_at,
+    move_down,
 };

@@ -3,7 +3,6 @@ ghost use Rattle.std.specs.Prelude.{◌≡◌, ◌+◌, ◌<◌, ◌≤◌, [], 
 ghost use Rattle.tree.specs.Offset as offset;
 ghost use Rattle.tree.specs.Layout.{version_by, version_in, width};
 ghost use Rattle.tree.specs.Room.{records_in};
-ghost use Rattle.fields.specs.Kind.{number_of};
 ghost use Rattle.fields.specs.Place.{as_place, said_in};
 ghost use Rattle.fields.specs.Record.{head};
 ghost use Rattle.readings.specs.View.{left, tree};
@@ -11,15 +10,15 @@ ghost use Rattle.rules.specs.Made.{made_head};
 ghost use Rattle.output.specs.Bytes.{Moved, Patched, Placed, Made};
 ghost use Rattle.output.specs.Records.{MovedRecords, Recorded};
 ghost use Rattle.output.specs.Given.{GivenTree, GivenTrees};
-ghost use Rattle.output.specs.Trees.{Wrote};
+ghost use Rattle.output.specs.Trees.{CopiedTree, Wrote};
 
-use fields::{Kind, Place, Record, offset};
+use fields::{Place, Record, offset};
 use readings::{Node, Trees};
 
 // What a made record says beside its counts.
 #[derive(Drop)]
 pub struct MadeHead {
-    pub kind: Kind,
+    pub kind: u8,
     pub sub: u8,
     pub facts: u8,
     pub place: Place,
@@ -37,7 +36,9 @@ pub fn copy_bytes(src: &[u8], p: usize, n: usize, out: &mut [u8], q: usize)
     requires { (p + n ≤ length src.now) × (q + n ≤ length out.old) }
     ensures { Moved src.now p n out.old out.new q }
 {
-    out[q..q + n].copy_from_slice(&src[p..p + n]);
+    for i in 0..n {
+        out[q + i] = src[p + i];
+    }
 }
 
 // Copies n records of src from record at on to out, whose records are as wide, from record pos on.
@@ -55,12 +56,22 @@ pub fn copy_records(src: &[u8], at: usize, n: usize, out: &mut [u8], pos: usize)
     copy_bytes(src, from, length, out, to);
 }
 
-// Copies a tree to out from record pos on. Returns where it ends.
-pub fn copy_tree(node: Node, out: &mut [u8], pos: usize) -> usize
+// Copies the tree at record at, of size records, to out from record pos on. Returns where it ends.
+pub fn copy_tree(src: &[u8], at: usize, size: usize, out: &mut [u8], pos: usize) -> usize
+    requires { (at + size ≤ records_in src.now) × (pos + size ≤ records_in out.old) × (version_in out.old ≡ version_in src.now) }
+    ensures { CopiedTree src.now at size out.old out.new pos result }
+{
+    copy_records(src, at, size, out, pos);
+    pos + size
+}
+
+// The same of a node's tree.
+pub fn copy_node(node: Node, out: &mut [u8], pos: usize) -> usize
     requires { GivenTree node out.old pos }
     ensures { Wrote out.old out.new pos result (tree node.entry ∷ []) }
 {
-    copy_trees(node.alone(), out, pos)
+    let Record { src, at } = node.record;
+    copy_tree(src, at, node.size(), out, pos)
 }
 
 // The same of trees that stand one behind the other.
@@ -81,8 +92,9 @@ pub fn move_down(out: &mut [u8], pos: usize, n: usize)
 {
     let to = Record { src: out, at: pos }.start();
     let width = fields::width_of(out);
-    let from = to + width;
-    out.copy_within(from..from + width * n, to);
+    for q in to..to + width * n {
+        out[q] = out[q + width];
+    }
 }
 
 // The record that part starts with has these counts.
@@ -119,9 +131,9 @@ fn put_place(part: &mut [u8], ends: bool, place: Place)
 // The record that part starts with is made anew.
 fn make(part: &mut [u8], ends: bool, head: MadeHead, counts: Counts)
     requires { (offset.end ≤ length part.old) × (width (version_by ends) ≤ length part.old) }
-    ensures { Made (version_by ends) part.old part.new (number_of head.kind) head.sub head.facts (as_place head.place) counts.children counts.records }
+    ensures { Made (version_by ends) part.old part.new head.kind head.sub head.facts (as_place head.place) counts.children counts.records }
 {
-    part[offset::KIND] = u8::from(head.kind);
+    part[offset::KIND] = head.kind;
     part[offset::FACTS] = head.facts;
     part[offset::SUB] = head.sub;
     part[offset::RESERVED] = 0;
@@ -135,7 +147,7 @@ fn make(part: &mut [u8], ends: bool, head: MadeHead, counts: Counts)
 #[tactic(auto, using(crate::specs::Parts::part_wide))]
 pub fn make_at(out: &mut [u8], pos: usize, head: MadeHead, counts: Counts)
     requires { pos + 1 ≤ records_in out.old }
-    ensures { Recorded out.old out.new pos (made_head (number_of head.kind) head.sub head.facts (said_in out.old head.place)) counts.children counts.records }
+    ensures { Recorded out.old out.new pos (made_head head.kind head.sub head.facts (said_in out.old head.place)) counts.children counts.records }
 {
     let p = Record { src: out, at: pos }.start();
     let ends = fields::has_ends(out);

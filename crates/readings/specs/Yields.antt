@@ -1,16 +1,21 @@
--- A walk over trees: the next one, of the same bytes.
-use Rattle.std.specs.Prelude.{◌≡◌, refl, List, [], ◌∷◌, Option, None, Some, IfSome, IsSome, ℕ, suc, length}
+-- A walk over trees: the next one, of the same bytes, and the others right behind it.
+use Rattle.std.specs.Prelude.{◌≡◌, refl, List, [], ◌∷◌, Option, None, Some, IfSome, IsSome, MatchOption, ℕ, suc, ◌+◌, ◌-◌, length}
 use Rattle.std.specs.Iterator.{YieldsFirstBy}
 use Rattle.std.proofs.Common.{ap, arith, subst}
 use Rattle.std.proofs.lemmas.Iterator.{YieldsList}
 use Rattle.std.proofs.lemmas.Iterator.Consumers.{YieldsList-from_shown}
-use Rattle.tree.specs.Tree.{Forest, nil, node, Tree, trees, count}
+use Rattle.tree.specs.Tree.{Forest, nil, node, Tree, trees, count, records, size}
+use Rattle.readings.specs.At.{forest_at}
 use Rattle.readings.specs.View.{left, tree}
 use Rattle.readings.specs.declared.node.Node.{Node}
 use Rattle.readings.specs.declared.node.Trees.{Trees}
 
+-- The next one stands where the walk does, and the others behind it, up to the same end.
+abbrev pub Stepped : Trees → Option Node → Trees → Type 0
+Stepped s r t = (t.end ≡ s.end) × MatchOption r (s.at ≡ s.end) (λ n. (n.record.at ≡ s.at) × (t.at ≡ s.at + size (tree n)))
+
 abbrev pub YieldsTree : Trees → Option Node → Trees → Type 0
-YieldsTree s r t = YieldsFirstBy tree left s r t × (t.src.now ≡ s.src.now) × IfSome r (λ n. n.record.src.now ≡ s.src.now)
+YieldsTree s r t = YieldsFirstBy tree left s r t × (t.src.now ≡ s.src.now) × IfSome r (λ n. n.record.src.now ≡ s.src.now) × Stepped s r t
 
 -- Such a walk gives the trees that are left, in order.
 pub yields : {w : Trees} (ts : List Tree) → left w ≡ ts → YieldsList YieldsTree tree w ts
@@ -21,7 +26,7 @@ pub some_yielded : (s t : Trees) (r : Option Node) {n : ℕ} → YieldsTree s r 
 some_yielded s t None y e = absurd (omega (arith, e, ap length y.0.0))
 some_yielded s t (Some x) y e = refl
 
-pub yielded : (s t : Trees) (r : Option Node) (x : Node) → r ≡ Some x → YieldsTree s r t → (left s ≡ tree x ∷ left t) × (t.src.now ≡ s.src.now) × (x.record.src.now ≡ s.src.now)
+pub yielded : (s t : Trees) (r : Option Node) (x : Node) → r ≡ Some x → YieldsTree s r t → YieldsTree s (Some x) t
 yielded s t r x e y = subst (λ (o : Option Node). YieldsTree s o t) e y
 
 -- A node's children are as many as their list.
@@ -32,3 +37,11 @@ count_trees (node h cs rest) = ap suc (count_trees rest)
 pub none_behind : (l : List Tree) → length l ≡ 0 → l ≡ []
 none_behind [] e = refl
 none_behind (x ∷ xs) e = absurd (omega arith)
+
+-- Where no tree is left, the walk stands at its end.
+pub at_end : (w : Trees) → left w ≡ [] → w.at ≡ w.end
+at_end w e = let n = none (forest_at w.src.now w.at (w.end - w.at)) e in omega (arith, w.ordered, w.held.1)
+  where
+    none : (f : Forest) → trees f ≡ [] → records f ≡ 0
+    none nil q = refl
+    none (node h cs rest) q = absurd (omega (arith, ap length q))

@@ -1,6 +1,6 @@
 // A class by its parts: what makes it an effect, what keeps it, and what its elements say.
-ghost use Rattle.std.specs.Prelude.{◌≡◌, IfSome, cond, drop, option_map, option_to_list, take};
-ghost use Rattle.tree.specs.Tree.{trees};
+ghost use Rattle.std.specs.Prelude.{◌≡◌, ◌+◌, IfSome, cond, drop, option_map, option_to_list, take};
+ghost use Rattle.tree.specs.Tree.{size, trees};
 ghost use Rattle.rules.specs.Lists.{any};
 ghost use Rattle.rules.specs.Class.{arrow_heritage, computed_key, decorated_element, elements, flagged_static_value, heritage, kept_class, value_of};
 ghost use Rattle.rules.specs.Effects.{class_is_effect};
@@ -17,6 +17,7 @@ impl<'a> Node<'a> {
         ensures first { option_to_list (option_map tree result.0) ≡ take (cond own 1 0) (trees (tree self.entry).kids) }
         ensures others { left result.1 ≡ drop (cond own 1 0) (trees (tree self.entry).kids) }
         ensures source { (result.1.src.now ≡ self.entry.record.src.now) × IfSome result.0 (λ n. n.record.src.now ≡ self.entry.record.src.now) }
+        ensures ends { result.1.end ≡ self.entry.record.at + size (tree self.entry) }
     {
         let mut children = self.children();
         let first = if own { children.next() } else { None };
@@ -28,6 +29,7 @@ impl<'a> Node<'a> {
         ensures first { option_to_list (option_map tree result.0) ≡ heritage (tree self.entry) }
         ensures others { left result.1 ≡ elements (tree self.entry) }
         ensures source { (result.1.src.now ≡ self.entry.record.src.now) × IfSome result.0 (λ n. n.record.src.now ≡ self.entry.record.src.now) }
+        ensures ends { result.1.end ≡ self.entry.record.at + size (tree self.entry) }
     {
         self.split_children(self.record.sub() / 2 % 2 == 1)
     }
@@ -37,6 +39,7 @@ impl<'a> Node<'a> {
         ensures first { option_to_list (option_map tree result.0) ≡ computed_key (tree self.entry) }
         ensures others { left result.1 ≡ value_of (tree self.entry) (trees (tree self.entry).kids) }
         ensures source { (result.1.src.now ≡ self.entry.record.src.now) × IfSome result.0 (λ n. n.record.src.now ≡ self.entry.record.src.now) }
+        ensures ends { result.1.end ≡ self.entry.record.at + size (tree self.entry) }
     {
         self.split_children(self.record.sub() / 16 % 2 == 1)
     }

@@ -45,7 +45,9 @@ impl Node<'_> {
         self.record.children() != 0 && self.record.text() == 0 && self.only_possible_symbols()
     }
 
-    // Whether the test of a conditional or a logical counts as yes.
+    // Whether the test of a conditional or a logical counts as yes. As a call it would put copies of the node and of the settings into
+    // each frame of List effects' recursion.
+    #[inline(always)]
     pub fn test_is_yes(self, settings: Settings) -> bool
         ensures { result ≡ test_is_yes (given settings.entry) (tree self.entry) }
     {

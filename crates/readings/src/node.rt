@@ -1,5 +1,5 @@
 // A tree that stands in a list of bytes, and trees that stand there one behind the other.
-ghost use Rattle.std.specs.Prelude.{◌≡◌, ◌-◌, ◌<◌, ◌≤◌};
+ghost use Rattle.std.specs.Prelude.{◌≡◌, ◌+◌, ◌-◌, ◌<◌, ◌≤◌};
 ghost use Rattle.readings.specs.At.{NodeAt, NodeAt-prop, HeldAt, HeldAt-prop};
 
 use fields::{Kind, Record};
@@ -45,6 +45,7 @@ impl<'a> Node<'a> {
     pub fn children(self) -> Trees<'a>
         ensures trees { left result ≡ trees (tree self.entry).kids }
         ensures source { result.src.now ≡ self.entry.record.src.now }
+        ensures ends { result.end ≡ self.entry.record.at + size (tree self.entry) }
     {
         Trees {
             src: self.record.src,

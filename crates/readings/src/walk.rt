@@ -1,6 +1,6 @@
 // A tree as a list of one, its first two children, and a walk over a list that goes into its trees.
-ghost use Rattle.std.specs.Prelude.{◌≡◌, [], ◌∷◌, option_map, slice_get};
-ghost use Rattle.tree.specs.Tree.{count, trees};
+ghost use Rattle.std.specs.Prelude.{◌≡◌, ◌+◌, [], ◌∷◌, option_map, slice_get};
+ghost use Rattle.tree.specs.Tree.{count, size, trees};
 ghost use Rattle.readings.specs.Entered.{entered};
 ghost use Rattle.readings.specs.Sides.{first_two};
 ghost use Rattle.readings.specs.View.{left, tree};
@@ -29,11 +29,12 @@ impl<'a> Node<'a> {
         Some((left, right))
     }
 
-    // The three children of a conditional.
+    // The three children of a conditional, one behind the other up to its end.
     pub fn three_children(self) -> (Node<'a>, Node<'a>, Node<'a>)
         requires { count (tree self).kids ≡ 3 }
         ensures kids { trees (tree self.entry).kids ≡ tree result.0 ∷ tree result.1 ∷ tree result.2 ∷ [] }
         ensures source { (result.0.record.src.now ≡ self.entry.record.src.now) × (result.1.record.src.now ≡ self.entry.record.src.now) × (result.2.record.src.now ≡ self.entry.record.src.now) }
+        ensures ends { (result.1.record.at ≡ result.0.record.at + size (tree result.0)) × (result.2.record.at ≡ result.1.record.at + size (tree result.1)) × (result.2.record.at + size (tree result.2) ≡ self.entry.record.at + size (tree self.entry)) }
     {
         let mut children = self.children();
         let first = children.next().unwrap();

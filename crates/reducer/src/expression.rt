@@ -44,10 +44,11 @@ impl Reduction<'_> {
         ensures { ReducedChild (tree node.entry) part self.old self.new waiting result }
     {
         if walk::waits(node, part) {
-            return rewrite::hold(node, self.out, waiting);
+            let Record { src, at } = node.record;
+            return rewrite::hold(src, at, node.size(), self.out, waiting);
         }
-        let end = if walk::wraps(node, part) {
-            rewrite::wrap_spread(node, self.out, waiting.next)
+        let end = if walk::wraps(node.record, part) {
+            rewrite::wrap_spread(node, node.size(), self.out, waiting.next)
         } else {
             self.remove_unused_expression(node, depth, waiting.next)
         };
@@ -62,7 +63,7 @@ impl Reduction<'_> {
         let below = depth - 1;
         match handlers::handle(node, self.settings) {
             Outcome::Removable => pos,
-            Outcome::Unchanged => output::copy_tree(node, self.out, pos),
+            Outcome::Unchanged => output::copy_node(node, self.out, pos),
             Outcome::Unwrapped => {
                 let waiting = self.reduce_children(node.children(), Part::InOrder, below, pos);
                 waiting.next

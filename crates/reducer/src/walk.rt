@@ -1,6 +1,6 @@
 // What is left of a list of children, child by child, as the parent asks for it.
 ghost use Rattle.std.specs.Prelude.{◌≡◌};
-ghost use Rattle.fields.specs.Record.{head};
+ghost use Rattle.fields.specs.Record.{head, node};
 ghost use Rattle.readings.specs.View.{tree};
 ghost use Rattle.reducer.specs.Walked.{part_under, waits, wraps};
 ghost use Rattle.reducer.specs.Settled.{GivenSettled, SettlesKept, GivenSettle, Settles};
@@ -43,10 +43,11 @@ pub fn waits(node: Node, part: Part) -> bool
     }
 }
 
-pub fn wraps(node: Node, part: Part) -> bool
-    ensures { result ≡ wraps part (tree node.entry) }
+#[tactic(auto, unfolding(rules::specs::Handler::is_kind))]
+pub fn wraps(root: Record, part: Part) -> bool
+    ensures { result ≡ wraps part (node root.entry) }
 {
-    matches!(part, Part::Argument) && node.is_kind(Kind::Spread)
+    matches!(part, Part::Argument) && root.is_kind(Kind::Spread)
 }
 
 // Of another parent than an object. Only in a template any wait; elsewhere nothing is made.

@@ -1,6 +1,5 @@
 // A made node over the trees that stand behind its record.
 ghost use Rattle.std.specs.Prelude.{◌+◌};
-ghost use Rattle.fields.specs.Kind.{number_of};
 ghost use Rattle.fields.specs.Place.{said_in};
 ghost use Rattle.output.specs.Lists.{Spanned};
 ghost use Rattle.rewrite.specs.Made.{GivenMade, MadeOver, make_flagged, Makes, FlagOf};
@@ -21,7 +20,7 @@ fn flag_of(out: &[u8], at: usize, end: usize) -> u8
 // The record at pos, over the trees from there to record end.
 pub fn make_over(out: &mut [u8], pos: usize, end: usize, head: MadeHead)
     requires { GivenMade out.old pos end }
-    ensures { MadeOver out.old out.new pos end (number_of head.kind) head.sub head.facts (said_in out.old head.place) }
+    ensures { MadeOver out.old out.new pos end head.kind head.sub head.facts (said_in out.old head.place) }
 {
     let n = output::count_trees(out, pos + 1, end);
     let counts = Counts {
@@ -32,9 +31,9 @@ pub fn make_over(out: &mut [u8], pos: usize, end: usize, head: MadeHead)
 }
 
 // The same, flagged if a tree is.
-pub fn make_flagged(out: &mut [u8], pos: usize, end: usize, kind: Kind, sub: u8, place: Place)
+pub fn make_flagged(out: &mut [u8], pos: usize, end: usize, kind: u8, sub: u8, place: Place)
     requires { GivenMade out.old pos end }
-    ensures { Makes (make_flagged (number_of kind) sub) out.old out.new pos end (said_in out.old place) }
+    ensures { Makes (make_flagged kind sub) out.old out.new pos end (said_in out.old place) }
 {
     let head = MadeHead {
         kind,
@@ -50,7 +49,7 @@ pub fn make_sequence(out: &mut [u8], pos: usize, end: usize, place: Place)
     requires { GivenMade out.old pos end }
     ensures { Makes make_sequence out.old out.new pos end (said_in out.old place) }
 {
-    make_flagged(out, pos, end, Kind::Sequence, 0, place);
+    make_flagged(out, pos, end, u8::from(Kind::Sequence), 0, place);
 }
 
 // "a logical node (kind 20, sub 1 for and, 2 for or)"
@@ -59,5 +58,5 @@ pub fn make_logical(out: &mut [u8], pos: usize, end: usize, sub: u8, place: Plac
     requires { GivenMade out.old pos end }
     ensures { Makes (make_logical sub) out.old out.new pos end (said_in out.old place) }
 {
-    make_flagged(out, pos, end, Kind::Logical, sub, place);
+    make_flagged(out, pos, end, u8::from(Kind::Logical), sub, place);
 }

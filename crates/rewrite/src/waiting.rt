@@ -1,13 +1,13 @@
 // Nodes that wait: copied behind a free record that is made when they stop waiting.
-ghost use Rattle.std.specs.Prelude.{◌≡◌, ◌+◌, ◌<◌};
-ghost use Rattle.tree.specs.Tree.{size};
+ghost use Rattle.std.specs.Prelude.{◌≡◌, ◌+◌, ◌<◌, ◌≤◌};
+ghost use Rattle.tree.specs.Layout.{version_in};
+ghost use Rattle.tree.specs.Room.{records_in};
 ghost use Rattle.fields.specs.Place.{said_in};
 ghost use Rattle.rules.specs.Made.{make_template, make_object};
 ghost use Rattle.readings.specs.View.{tree};
-ghost use Rattle.output.specs.Given.{GivenTree};
-ghost use Rattle.rewrite.specs.Waiting.{GivenWaiting, Held, Flushed, Wrapped};
+ghost use Rattle.rewrite.specs.Waiting.{GivenWaiting, HeldRecords, Flushed, WrappedRecords};
 
-use fields::{Kind, Place};
+use fields::{Kind, Place, Record};
 use output::{Counts, MadeHead};
 use readings::Node;
 
@@ -32,14 +32,14 @@ impl Waiting {
     }
 }
 
-// A tree waits too.
-pub fn hold(node: Node, out: &mut [u8], waiting: Waiting) -> Waiting
-    requires { GivenTree node out.old (waiting.next + 1) }
-    ensures { Held (tree node.entry) out.old out.new waiting result }
+// The tree at record at, of size records, waits too.
+pub fn hold(src: &[u8], at: usize, size: usize, out: &mut [u8], waiting: Waiting) -> Waiting
+    requires { (at + size ≤ records_in src.now) × (waiting.next + 1 + size ≤ records_in out.old) × (version_in out.old ≡ version_in src.now) }
+    ensures { HeldRecords src.now at size out.old out.new waiting result }
 {
     let Waiting { slot, next } = waiting;
     let pos = if slot == next { next + 1 } else { next };
-    let next = output::copy_tree(node, out, pos);
+    let next = output::copy_tree(src, at, size, out, pos);
     Waiting { slot, next }
 }
 
@@ -51,7 +51,7 @@ pub fn flush_template(out: &mut [u8], waiting: Waiting, place: Place)
     let Waiting { slot, next } = waiting;
     if slot < next {
         let template = MadeHead {
-            kind: Kind::Template,
+            kind: u8::from(Kind::Template),
             sub: 0,
             facts: 1,
             place,
@@ -67,26 +67,28 @@ pub fn flush_object(out: &mut [u8], waiting: Waiting, place: Place)
 {
     let Waiting { slot, next } = waiting;
     if slot < next {
-        crate::made::make_flagged(out, slot, next, Kind::Object, 0, place);
+        crate::made::make_flagged(out, slot, next, u8::from(Kind::Object), 0, place);
     }
 }
 
 // "a spread first wrapped in an array at the spread's place": one that is flagged stays in it, and another goes.
-pub fn wrap_spread(node: Node, out: &mut [u8], pos: usize) -> usize
-    requires { GivenTree node out.old (pos + 1) × (size (tree node) < 65535) }
-    ensures { Wrapped (tree node.entry) out.old out.new pos result }
+// The spread takes size records.
+pub fn wrap_spread(node: Node, size: usize, out: &mut [u8], pos: usize) -> usize
+    requires { (node.record.at + size ≤ records_in node.record.src.now) × (pos + 1 + size ≤ records_in out.old) × (version_in out.old ≡ version_in node.record.src.now) × (size < 65535) }
+    ensures { WrappedRecords (tree node.entry) size out.old out.new pos result }
 {
     if node.is_flagged() {
-        let next = output::copy_tree(node, out, pos + 1);
+        let Record { src, at } = node.record;
+        let next = output::copy_tree(src, at, size, out, pos + 1);
         let array = MadeHead {
-            kind: Kind::Array,
+            kind: u8::from(Kind::Array),
             sub: 0,
             facts: 1,
             place: node.record.place(),
         };
         let counts = Counts {
             children: 1,
-            records: (node.size() + 1) as u16,
+            records: (size + 1) as u16,
         };
         output::make_at(out, pos, array, counts);
         return next;

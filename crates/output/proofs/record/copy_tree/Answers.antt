@@ -1,5 +1,5 @@
-use Rattle.output.specs.Given.{alone_given}
+use Rattle.output.specs.Trees.{copied_tree}
 use Rattle.output.proofs.record.copy_tree.Goals as goal
 
-pub copy_trees-requires : goal.copy_trees-requires
-copy_trees-requires c = alone_given c.alone.ensures.trees c.alone.ensures.source c.requires
+pub returns : goal.returns
+returns c = copied_tree c.copy_records.ensures

@@ -5,4 +5,4 @@ use Rattle.output.specs.Bytes.{made_of}
 use Rattle.output.proofs.record.make.Goals as goal
 
 pub returns : goal.returns
-returns c = let v = version_by c.args.ends in rw (← c.from.ensures) (made_of v (fields_within v) refl c.put16.ensures c.put16-2.ensures c.put32.ensures c.put_place.ensures c.requires.1)
+returns c = let v = version_by c.args.ends in made_of v (fields_within v) refl c.put16.ensures c.put16-2.ensures c.put32.ensures c.put_place.ensures c.requires.1

@@ -1,7 +1,8 @@
-use Rattle.std.specs.Prelude.{◌≡◌, Bool, List, ℕ, ◌++◌, take, drop}
+use Rattle.std.specs.Prelude.{◌≡◌, List, ℕ, ◌++◌, take, drop}
 use Rattle.std.proofs.Common.{sym, ap, ◌∙◌, arith}
-use Rattle.tree.specs.Tree.{trees}
+use Rattle.tree.specs.Tree.{Head, trees}
 use Rattle.tree.specs.Symbol.{Sides, string_fact}
+use Rattle.fields.specs.Record.{head, node}
 use Rattle.rules.specs.Class.{heritage, elements, static_value}
 use Rattle.rules.specs.Lists.{concat_map}
 use Rattle.rules.specs.Effects.{evaluate, effects, effects_of, addition_effect, class_is_effect, itself_if}
@@ -9,12 +10,15 @@ use Rattle.rules.proofs.Lists.{all_take, all_drop}
 use Rattle.rules.proofs.Addition.{effects_sides}
 use Rattle.rules.proofs.Effects.{key_is, static_is}
 use Rattle.readings.specs.Alone.{own_string_fact, own_static_value, own_static_block}
+use Rattle.readings.specs.At.{head_is}
 use Rattle.readings.specs.Given.{given}
 use Rattle.readings.specs.View.{tree}
+use Rattle.readings.specs.declared.node.Node.{Node}
 use Rattle.effects.specs.declared.listing.Listing.{Listing}
 use Rattle.effects.specs.Listing.{HasRoom, Listed, listable_kids, node_ok_of, some_level, listed_none, listed_both, listed_as, room_first, room_after, room_after_both, listed_after_both}
-use Rattle.effects.specs.Passed.{passes_is}
-use Rattle.effects.specs.Plan.{planned_as}
+use Rattle.effects.specs.Entry.{own_itself}
+use Rattle.effects.specs.Passed.{own_passed, passes_is}
+use Rattle.effects.specs.Plan.{is_passed, planned_as}
 use Rattle.effects.specs.Sum.{has_two, sides_are, right_coerced, string_left, left_coerced, itself_listed, string_right}
 use Rattle.effects.specs.Taken.{taken, others, first_some, first_none}
 use Rattle.effects.specs.Walking.{walk_done, walk_first, walk_on, walk_pass, tree_room, pass_room, pass_smaller}
@@ -22,14 +26,17 @@ use Rattle.effects.proofs.listing.Listing.+listing.Goals.{list_children-After-pa
 use Rattle.effects.proofs.listing.Listing.+listing.Goals as goal
 
 -- ---- the walk over a list
+kind_passed : (n : Node) → is_passed (tree n).head.kind ≡ is_passed (head n.record).kind
+kind_passed n = ap (λ (h : Head). is_passed h.kind) (head_is _ _)
+
 -- Of a node that is passed, itself is listed before its children.
 passed : {t : ℕ} (c : list_children-After-passed_itself-itself t)
     → effects (given c.args.self.now.settings) (tree c.in-Some.node)
-    ≡ itself_if c.passed_itself-itself.result (tree c.in-Some.node) ++ effects_of (given c.args.self.now.settings) (trees (tree c.in-Some.node).kids)
+    ≡ itself_if c.passed_itself-itself.result (node c.in-Some.node.record) ++ effects_of (given c.args.self.now.settings) (trees (tree c.in-Some.node).kids)
 passed c =
     let w = c.loop-node.invariant in
-    let p = passes_is (given c.args.self.now.settings) (tree c.in-Some.node) (node_ok_of (walk_first w _ _ (first_some _ _ c.in-Some.ensures))) (sym c.is_passed.ensures ∙ c.if-is_passed.true) in
-    rw (sym (rw w.listed.settings at c.passed_itself-itself.ensures)) at p
+    let p = passes_is (given c.args.self.now.settings) (tree c.in-Some.node) (node_ok_of (walk_first w _ _ (first_some _ _ c.in-Some.ensures))) (kind_passed c.in-Some.node ∙ sym c.is_passed.ensures ∙ c.if-is_passed.true) in
+    rw (sym (rw w.listed.settings at c.passed_itself-itself.ensures ∙ own_passed _ _ _), sym (own_itself c.in-Some.node.record.src.now c.in-Some.node.record.at)) at p
 
 pub list_children-list_if-requires : goal.list_children-list_if-requires
 list_children-list_if-requires t c =
@@ -48,7 +55,7 @@ pub list_children-list_expr-requires : goal.list_children-list_expr-requires
 list_children-list_expr-requires t c =
     let w = c.loop-node.invariant in
     let e = first_some _ _ c.in-Some.ensures in
-    (omega (arith, c.decreases), (sym c.is_passed.ensures ∙ c.if-is_passed.false, (walk_first w _ _ e, rw w.listed.settings (tree_room w _ _ e c.requires.room))))
+    (omega (arith, c.decreases), (kind_passed c.in-Some.node ∙ sym c.is_passed.ensures ∙ c.if-is_passed.false, (walk_first w _ _ e, rw w.listed.settings (tree_room w _ _ e c.requires.room))))
 
 pub list_children-loop-node-preserved : goal.list_children-loop-node-preserved
 list_children-loop-node-preserved t c =
@@ -110,7 +117,7 @@ list_expr-list_children-requires t c =
 pub list_expr-returns-in-Children : goal.list_expr-returns-in-Children
 list_expr-returns-in-Children t c =
     let e = planned_as _ _ c.requires.inner c.plan_of.ensures _ c.in-Children.is in
-    listed_as (listed_both (rw c.children-children.ensures.trees at c.list_children.ensures) c.list_if.ensures) (sym e)
+    listed_as (listed_both (rw c.children-children.ensures.trees at c.list_children.ensures) (rw (own_itself _ _) at c.list_if.ensures)) (sym e)
 
 pub list_expr-list_coerced-requires : goal.list_expr-list_coerced-requires
 list_expr-list_coerced-requires t c =
@@ -155,7 +162,7 @@ heritage_listed : {t : ℕ} (c : list_class-After-list_any t)
 heritage_listed c = rw c.heritage_and_elements.ensures.first at c.list_any.ensures
 
 class_listed : {t : ℕ} (c : list_class-After-list_if t) → Listed c.list_any.new.self c.list_if.new.self (itself_if (class_is_effect (tree c.args.node)) (tree c.args.node))
-class_listed c = rw c.class_is_effect.ensures at c.list_if.ensures
+class_listed c = rw (c.class_is_effect.ensures, own_itself _ _) at c.list_if.ensures
 
 keys_listed : {t : ℕ} (c : list_class-After-list_keys t)
     → Listed c.list_if.new.self c.list_keys.new.self (concat_map (λ e. (evaluate (given c.args.self.now.settings) e).key) (elements (tree c.args.node)))
@@ -167,7 +174,7 @@ list_class-list_any-requires t c =
 
 pub list_class-list_if-requires : goal.list_class-list_if-requires
 list_class-list_if-requires t c =
-    rw c.class_is_effect.ensures (room_first _ _ _ _ (room_after _ (heritage_listed (goal.at.list_class-list_if-requires t c).After-list_any) c.requires.room))
+    rw (c.class_is_effect.ensures, own_itself _ _) (room_first _ _ _ _ (room_after _ (heritage_listed (goal.at.list_class-list_if-requires t c).After-list_any) c.requires.room))
 
 pub list_class-list_keys-requires : goal.list_class-list_keys-requires
 list_class-list_keys-requires t c =
@@ -255,7 +262,7 @@ list_addition-list_if-requires t c =
     let p = goal.at.list_addition-list_if-requires t c in
     let S = sides p.After-unwrap in
     let e = itself_listed S c.list_side-first.ensures.string c.if-first.false (right_fact p.After-has_string_fact) c.if-has_string_fact.false in
-    rw c.is_flagged.ensures (room_then p.After-list_side-second S _ e)
+    rw (c.is_flagged.ensures, own_itself _ _) (room_then p.After-list_side-second S _ e)
 
 pub list_addition-returns : goal.list_addition-returns
 list_addition-returns t c =
@@ -264,7 +271,7 @@ list_addition-returns t c =
     let f = c.list_side-first.ensures.string in
     let g = right_fact p.After-has_string_fact in
     record {
-      listed = listed_then p.After-list_side-second S _ (itself_listed S f c.if-first.false g c.if-has_string_fact.false) (rw c.is_flagged.ensures at c.list_if.ensures);
+      listed = listed_then p.After-list_side-second S _ (itself_listed S f c.if-first.false g c.if-has_string_fact.false) (rw (c.is_flagged.ensures, own_itself _ _) at c.list_if.ensures);
       string = string_right S f c.if-first.false g c.if-has_string_fact.false;
     }
 
@@ -283,5 +290,5 @@ list_static-returns t c =
       | list_static-then-has_static_value w ↦ rw (w.self-is, h ∙ w.if-has_static_value.true) (rw w.key_and_value.ensures.others at w.list_children.ensures)
       | list_static-else-has_static_value w ↦ rw (w.self-is, h ∙ w.if-has_static_value.false) (listed_none _)
     ] in
-    let b = ap (λ (x : Bool). itself_if x (tree c.args.node)) (c.nonempty_static_block-block.ensures ∙ own_static_block _ _) in
-    listed_as (listed_both v (listed_as c.list_if.ensures b)) (sym (static_is _ _))
+    let b = rw (c.nonempty_static_block-block.ensures ∙ own_static_block _ _, own_itself _ _) at c.list_if.ensures in
+    listed_as (listed_both v b) (sym (static_is _ _))

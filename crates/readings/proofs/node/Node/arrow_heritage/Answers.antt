@@ -20,7 +20,7 @@ without_heritage t e = rw (← e)
 pub returns-in-Some : goal.returns-in-Some
 returns-in-Some c =
     c.is_kind.ensures
-    ∙ ap is_arrow c.last_expression_in_sequence.ensures
+    ∙ ap is_arrow c.last_expression_in_sequence.ensures.last
     ∙ sym (by_heritage (tree c.args.self) (tree c.in-Some.base) (rw c.in-Some.is at c.heritage_and_elements.ensures.first))
 
 pub returns-in-None : goal.returns-in-None

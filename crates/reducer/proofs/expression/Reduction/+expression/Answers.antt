@@ -24,14 +24,14 @@ use Rattle.reducer.proofs.expression.Reduction.+expression.Goals as goal
 -- ---- one child
 
 pub reduce_child-returns-then-waits : goal.reduce_child-returns-then-waits
-reduce_child-returns-then-waits t c = child_held c.args.part (tree c.args.node) c.waits.ensures c.if-waits.true (stays_written c.args.self.now c.hold.auto.out) c.hold.ensures
+reduce_child-returns-then-waits t c = child_held c.args.part (tree c.args.node) c.waits.ensures c.if-waits.true (stays_written c.args.self.now c.hold.auto.out) (c.hold.ensures.by (tree c.args.node) c.args.node.stands.0 c.size.ensures.records)
 
 pub reduce_child-settle-requires : goal.reduce_child-settle-requires
 reduce_child-settle-requires t c =
     let left : Reduced c.args.self.now c.if-wraps.self c.args.waiting.next c.if-wraps.end (left_of c.args.part (given c.args.self.now.settings) (tree c.args.node)) =
     elim c.if-wraps.branch [
-      | reduce_child-then-wraps w ↦ rw (w.self-is, w.end-is) (child_wrapped c.args.part (tree c.args.node) c.wraps.ensures w.if-wraps.true (stays_written _ w.wrap_spread-end.auto.out) w.wrap_spread-end.ensures)
-      | reduce_child-else-wraps w ↦ rw (w.self-is, w.end-is) (child_reduced c.args.part (tree c.args.node) c.wraps.ensures w.if-wraps.false w.remove_unused_expression-end.ensures)
+      | reduce_child-then-wraps w ↦ rw (w.self-is, w.end-is) (child_wrapped c.args.part c.args.node c.wraps.ensures w.if-wraps.true (stays_written _ w.wrap_spread-end.auto.out) (w.wrap_spread-end.ensures.by w.size-then-wraps.ensures.records))
+      | reduce_child-else-wraps w ↦ rw (w.self-is, w.end-is) (child_reduced c.args.part c.args.node c.wraps.ensures w.if-wraps.false w.remove_unused_expression-end.ensures)
     ] in
     given_settle c.requires c.args.part (given c.args.self.now.settings) left.wrote
 
@@ -40,8 +40,8 @@ unfolding tree_at
 reduce_child-returns t c =
     let left : Reduced c.args.self.now c.if-wraps.self c.args.waiting.next c.if-wraps.end (left_of c.args.part (given c.args.self.now.settings) (tree c.args.node)) =
     elim c.if-wraps.branch [
-      | reduce_child-then-wraps w ↦ rw (w.self-is, w.end-is) (child_wrapped c.args.part (tree c.args.node) c.wraps.ensures w.if-wraps.true (stays_written _ w.wrap_spread-end.auto.out) w.wrap_spread-end.ensures)
-      | reduce_child-else-wraps w ↦ rw (w.self-is, w.end-is) (child_reduced c.args.part (tree c.args.node) c.wraps.ensures w.if-wraps.false w.remove_unused_expression-end.ensures)
+      | reduce_child-then-wraps w ↦ rw (w.self-is, w.end-is) (child_wrapped c.args.part c.args.node c.wraps.ensures w.if-wraps.true (stays_written _ w.wrap_spread-end.auto.out) (w.wrap_spread-end.ensures.by w.size-then-wraps.ensures.records))
+      | reduce_child-else-wraps w ↦ rw (w.self-is, w.end-is) (child_reduced c.args.part c.args.node c.wraps.ensures w.if-wraps.false w.remove_unused_expression-end.ensures)
     ] in
     child_settled c.args.part (tree c.args.node) c.waits.ensures c.if-waits.false left (stays_written _ c.settle.auto.out) c.settle.ensures
 
@@ -230,8 +230,8 @@ remove_unused_expression-returns-in-Removable t c = record { wrote = removable_d
 pub remove_unused_expression-returns-in-Unchanged : goal.remove_unused_expression-returns-in-Unchanged
 remove_unused_expression-returns-in-Unchanged t c =
     record {
-      wrote = outcome_done outcomes.Unchanged (as_outcome outcomes.Unchanged c.requires.listable c.handle.ensures c.in-Unchanged.is) c.copy_tree.ensures;
-      stays = stays_written _ c.copy_tree.auto.out;
+      wrote = outcome_done outcomes.Unchanged (as_outcome outcomes.Unchanged c.requires.listable c.handle.ensures c.in-Unchanged.is) c.copy_node.ensures;
+      stays = stays_written _ c.copy_node.auto.out;
     }
 
 pub remove_unused_expression-returns-in-Unwrapped : goal.remove_unused_expression-returns-in-Unwrapped
