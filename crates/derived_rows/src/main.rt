@@ -7,7 +7,9 @@ ghost use Rattle.std.specs.Prelude.{◌<◌, length, IfSome};
 ghost use Rattle.std.specs.Iterator.{at_most};
 
 use refusal::Refusal;
-use std::io::{Stdout, Write};
+use std::fmt::Write;
+use std::io::Stdout;
+use streams::Printer;
 
 fn main(rt: HostRuntime) {
     let mut input = [0u8; 131072];
@@ -49,11 +51,12 @@ fn split_list(input: &[u8]) -> Option<(&[u8], &[u8])>
     Some(rest.split_at(rest.len().min(usize::from(count))))
 }
 
-// A write that fails is passed over.
+// A write that fails is passed over. A word and the end of its line are one write.
 fn print_answer(stdout: &mut Stdout, answer: Result<bool, Refusal>) {
+    let mut out = Printer(stdout);
     let _ = match answer {
-        Ok(true) => writeln!(stdout, "yes"),
-        Ok(false) => writeln!(stdout, "no"),
-        Err(refusal) => writeln!(stdout, "{refusal}"),
+        Ok(true) => write!(out, "yes\n"),
+        Ok(false) => write!(out, "no\n"),
+        Err(refusal) => writeln!(out, "{refusal}"),
     };
 }

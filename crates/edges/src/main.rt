@@ -4,7 +4,9 @@
 
 use file::{Accepted, Limits};
 use refusal::Refusal;
-use std::io::{Stdin, Stdout, Write};
+use std::fmt::Write;
+use std::io::{Stdin, Stdout};
+use streams::Printer;
 
 // The longest file that two bytes can ask for.
 const LONGEST: usize = 65535;
@@ -43,8 +45,9 @@ fn check_file(stdout: &mut Stdout, src: &[u8]) {
 
 // A write that fails is passed over.
 fn print_answer(stdout: &mut Stdout, answer: Result<Accepted, Refusal>) {
+    let mut out = Printer(stdout);
     let _ = match answer {
-        Ok(Accepted { settings, count }) => write!(stdout, "{settings}/{count}"),
-        Err(refusal) => write!(stdout, "{}", refusal.number()),
+        Ok(Accepted { settings, count }) => write!(out, "{settings}/{count}"),
+        Err(refusal) => write!(out, "{}", refusal.number()),
     };
 }

@@ -1,5 +1,5 @@
 // The kinds of nodes, by document 01's names and with its numbers; as definitions: crates/tree/specs/Kind.antt.
-ghost use Rattle.std.specs.Prelude.{◌≡◌};
+ghost use Rattle.std.specs.Prelude.{◌≡◌, ◌++◌, Some, codes, decimal};
 ghost use Rattle.fields.specs.Kind.{Decodes, number_of};
 
 use std::error::Error;
@@ -78,6 +78,8 @@ impl TryFrom<u8> for Kind {
 }
 
 impl fmt::Display for UnknownKind {
+    ghost output = { λ unknown. Some (codes "no kind has the number " ++ decimal unknown.0) };
+
     fn fmt<W: fmt::Write>(&self, f: &mut fmt::Formatter<W>) -> fmt::Result {
         write!(f, "no kind has the number {}", self.0)
     }

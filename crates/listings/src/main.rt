@@ -5,7 +5,9 @@
 #![tactic(auto)]
 
 use cases::Cases;
-use std::io::{Stdout, Write};
+use std::fmt::Write;
+use std::io::Stdout;
+use streams::Printer;
 
 // Twice the 3,999 records that a file has at most: enough for any file, so that none is refused with 10.
 const ENTRIES: usize = 7998;
@@ -29,17 +31,23 @@ fn print_effects(stdout: &mut Stdout, src: &[u8]) {
     let mut entries = [0u64; ENTRIES];
     match effects::list_effects(src, &mut entries) {
         Ok(count) => {
-            let _ = writeln!(stdout, "count {count}");
+            streams::print_number(stdout, b"count ", count as u64);
             for entry in &entries[..count] {
                 print_entry(stdout, *entry);
             }
         }
         Err(refusal) => {
-            let _ = writeln!(stdout, "{refusal}");
+            let _ = writeln!(Printer(stdout), "{refusal}");
         }
     }
 }
 
 fn print_entry(stdout: &mut Stdout, entry: u64) {
-    let _ = writeln!(stdout, "{}/{}/{}", entry / 512, entry / 2 % 256, entry % 2);
+    let _ = writeln!(
+        Printer(stdout),
+        "{}/{}/{}",
+        entry / 512,
+        entry / 2 % 256,
+        entry % 2
+    );
 }

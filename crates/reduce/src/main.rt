@@ -3,7 +3,8 @@
 // A write that fails is passed over.
 #![tactic(auto)]
 
-use std::io::Write;
+use std::fmt::Write;
+use streams::Printer;
 
 fn main(rt: HostRuntime) {
     let mut input = [0u8; 40009];
@@ -15,7 +16,7 @@ fn main(rt: HostRuntime) {
         }
         Ok(None) => {}
         Err(refusal) => {
-            let _ = writeln!(rt.stderr(), "{refusal}");
+            let _ = writeln!(Printer(&mut rt.stderr()), "{refusal}");
         }
     }
 }

@@ -7,7 +7,9 @@
 #![tactic(auto)]
 
 use cases::{Case, Cases};
-use std::io::{Stdout, Write};
+use std::fmt::Write;
+use std::io::Stdout;
+use streams::Printer;
 
 // What stands before the file of a case.
 const HEAD: usize = 5;
@@ -33,17 +35,17 @@ fn reduce_file(stdout: &mut Stdout, src: &[u8], lent: u16, fill: u8) {
 fn print_reduced(stdout: &mut Stdout, src: &[u8], out: &mut [u8], fill: u8) {
     match reducer::reduce(src, out) {
         Ok(Some(length)) => {
-            let _ = writeln!(stdout, "kept {length}");
+            streams::print_number(stdout, b"kept ", length as u64);
             let (file, tail) = out.split_at(length);
             print_file(stdout, file);
             print_tail(stdout, tail, fill);
         }
         Ok(None) => {
-            let _ = writeln!(stdout, "removable");
+            streams::write_all(stdout, b"removable\n");
             print_tail(stdout, out, fill);
         }
         Err(refusal) => {
-            let _ = writeln!(stdout, "{refusal}");
+            let _ = writeln!(Printer(stdout), "{refusal}");
             print_tail(stdout, out, fill);
         }
     }
@@ -64,13 +66,23 @@ fn print_file(stdout: &mut Stdout, file: &[u8]) {
 // A line of two hexadecimal digits a byte.
 fn print_bytes(stdout: &mut Stdout, bytes: &[u8]) {
     for byte in bytes {
-        let _ = write!(stdout, "{byte:02x}");
+        print_byte(stdout, *byte);
     }
-    let _ = writeln!(stdout);
+    streams::write_all(stdout, b"\n");
+}
+
+// Both digits in one write.
+fn print_byte(stdout: &mut Stdout, byte: u8) {
+    let digits = b"0123456789abcdef";
+    let text = [
+        digits[usize::from(byte / 16)],
+        digits[usize::from(byte % 16)],
+    ];
+    streams::write_all(stdout, &text);
 }
 
 // The lent bytes behind the answer, and how many of them are not the byte that all of them held before.
 fn print_tail(stdout: &mut Stdout, tail: &[u8], fill: u8) {
     let changed = tail.iter().filter(|byte| **byte != fill).count();
-    let _ = writeln!(stdout, "tail {} {changed}", tail.len());
+    let _ = writeln!(Printer(stdout), "tail {} {changed}", tail.len());
 }

@@ -20,12 +20,13 @@ use readings::Trees;
 fn main(rt: HostRuntime) {
     let mut input = [0u8; 79989];
     let n = streams::read_full(&mut rt.stdin(), &mut input);
-    let mut out = Out::new(rt.stdout());
+    let mut bytes = [0; 65536];
+    let mut out = Out::new(&mut bytes, rt.stdout());
     print_file(&input[..n], &mut out);
     out.flush();
 }
 
-fn print_file(src: &[u8], out: &mut Out) {
+fn print_file(src: &[u8], out: &mut Out<'_>) {
     match file::check(src, Limits::LIST_EFFECTS) {
         Err(refusal) => {
             out.put_number("refused ", u32::from(refusal.number()));
@@ -44,7 +45,7 @@ fn print_file(src: &[u8], out: &mut Out) {
 }
 
 // A version whose records have an end is 2, and any other that is accepted 1.
-fn print_header(src: &[u8], settings: u8, out: &mut Out)
+fn print_header(src: &[u8], settings: u8, out: &mut Out<'_>)
     requires { header_bytes ≤ length src.now }
 {
     out.put(if fields::has_ends(src) {
@@ -57,7 +58,7 @@ fn print_header(src: &[u8], settings: u8, out: &mut Out)
 }
 
 // Trees that are so many levels under the root. It calls itself as deep as they are; siblings are walked by the loop.
-fn print_trees(trees: Trees<'_>, level: usize, out: &mut Out)
+fn print_trees(trees: Trees<'_>, level: usize, out: &mut Out<'_>)
     requires { All (Shown level) (left trees) }
 {
     for node in trees {
@@ -66,7 +67,7 @@ fn print_trees(trees: Trees<'_>, level: usize, out: &mut Out)
     }
 }
 
-fn print_record(node: Record<'_>, level: usize, out: &mut Out)
+fn print_record(node: Record<'_>, level: usize, out: &mut Out<'_>)
     requires { HasKind node }
 {
     let kind = Kind::try_from(node.kind()).unwrap();

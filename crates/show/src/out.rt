@@ -2,17 +2,24 @@
 use std::io::Stdout;
 
 // `used` bytes are gathered. Each u16 is an index of the bytes, so that nothing has to be required of a count. With `arrayvec` the
-// program took a fifth longer. It is not `Drop`, so that what is gathered has to be written in the end.
-pub struct Out {
-    bytes: [u8; 65536],
+// program took a fifth longer. It is not `Drop`, so that what is gathered has to be written in the end: the bytes are lent, so that
+// they are not copied then.
+pub struct Out<'a> {
+    bytes: &'a mut [u8; 65536],
     used: u16,
     stdout: Stdout,
 }
 
-impl Out {
-    pub fn new(stdout: Stdout) -> Self {
+// Not within the loop of `put`, which it would slow.
+#[cold]
+fn write_full(stdout: &mut Stdout, bytes: &[u8; 65536]) {
+    streams::write_all(stdout, bytes);
+}
+
+impl<'a> Out<'a> {
+    pub fn new(bytes: &'a mut [u8; 65536], stdout: Stdout) -> Self {
         Out {
-            bytes: [0; 65536],
+            bytes,
             used: 0,
             stdout,
         }
@@ -25,7 +32,7 @@ impl Out {
             self.bytes[usize::from(used)] = byte;
             used = used.wrapping_add(1);
             if used == 0 {
-                streams::write_all(&mut self.stdout, &self.bytes);
+                write_full(&mut self.stdout, self.bytes);
             }
         }
         self.used = used;
@@ -49,12 +56,12 @@ impl Out {
     }
 
     // Writes what is gathered.
-    pub fn flush(mut self) {
-        streams::write_all(&mut self.stdout, &self.bytes[..usize::from(self.used)]);
+    pub fn flush(self) {
         let Out {
-            bytes: _,
-            used: _,
-            stdout: _,
+            bytes,
+            used,
+            mut stdout,
         } = self;
+        streams::write_all(&mut stdout, &bytes[..usize::from(used)]);
     }
 }

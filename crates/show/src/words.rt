@@ -51,7 +51,7 @@ fn form(kind: Kind, sub: u8) -> &'static str {
 }
 
 // What a sub says, by its form and by single bits.
-pub fn put_sub(kind: Kind, sub: u8, out: &mut Out) {
+pub fn put_sub(kind: Kind, sub: u8, out: &mut Out<'_>) {
     out.put(form(kind, sub));
     match kind {
         Kind::Property => out.put_flags(sub, &[" key"]),

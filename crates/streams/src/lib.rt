@@ -3,12 +3,13 @@
 // (docs/DECISIONS.md).
 #![tactic(auto)]
 
-ghost use Rattle.std.specs.Prelude.{◌≡◌, ◌++◌, take, true, codes, decimal};
+ghost use Rattle.std.specs.Prelude.{◌≡◌, ◌++◌, IsOk, take, true, codes, decimal};
 ghost use Rattle.std.specs.Io.KnownBytes.{Appends, Consumes};
 ghost use Rattle.streams.specs.Filled.{Filled};
 ghost use Rattle.streams.specs.Front.{AppendsFront, AppendsFronts};
 
 use itoa::Buffer;
+use std::fmt;
 use std::io::{Read, Write};
 
 // Reads until the buffer is full, the input ends or a read fails, and returns how many bytes stand at the front of the buffer then. Of
@@ -59,6 +60,24 @@ pub fn print_number<W: Write>(writer: &mut W, word: &[u8], number: u64) -> bool
     ensures fronts { AppendsFronts (W.contents writer.old) (W.contents writer.new) word.now (decimal number) (codes "\n") }
 {
     write_all(writer, word) & print_decimal(writer, number) & write_all(writer, b"\n")
+}
+
+// Takes the pieces of a `write!`, each of them also where one before it was not written whole: that is passed over.
+#[derive(Drop)]
+pub struct Printer<'a, W>(pub &'a mut W);
+
+impl<W: Write> fmt::Write for Printer<'_, W> {
+    ghost write_str_gives = { λ old piece new. (new.0.ghost_name ≡ old.0.ghost_name)
+        × AppendsFront (W.contents old.0.now) (W.contents new.0.now) piece };
+
+    fn write_str(&mut self, piece: &str) -> fmt::Result
+        ensures front { (self.new.0.ghost_name ≡ self.old.0.ghost_name)
+            × AppendsFront (W.contents self.old.0.now) (W.contents self.new.0.now) piece.now }
+        ensures ok { IsOk result }
+    {
+        write_all(self.0, piece.as_bytes());
+        Ok(())
+    }
 }
 
 #[cfg(test)]

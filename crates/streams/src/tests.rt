@@ -91,6 +91,15 @@ fn a_line_goes_on_behind_a_write_that_fails(rt: HostRuntime) {
 }
 
 #[test]
+fn a_printer_goes_on_behind_a_write_that_fails(rt: HostRuntime) {
+    let mut writer = FailsFirst { calls: 0 };
+    assert!(rt;
+        fmt::Write::write_fmt(&mut Printer(&mut writer), format_args!("count {}\n", 12)).is_ok()
+    );
+    assert_eq!(rt; writer.calls, 3);
+}
+
+#[test]
 fn numbers_are_printed(rt: HostRuntime) -> std::result::Result<(), Fail> {
     let mut text = Vec::new(rt.alloc());
     for number in [0, 7, 10, u64::MAX] {

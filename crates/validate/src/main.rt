@@ -4,7 +4,9 @@
 
 use file::{Accepted, Limits};
 use refusal::Refusal;
-use std::io::{Stdout, Write};
+use std::fmt::Write;
+use std::io::Stdout;
+use streams::Printer;
 
 fn main(rt: HostRuntime) {
     let mut input = [0u8; 40009];
@@ -14,10 +16,11 @@ fn main(rt: HostRuntime) {
 
 // A write that fails is passed over.
 fn print_answer(stdout: &mut Stdout, answer: Result<Accepted, Refusal>) {
+    let mut out = Printer(stdout);
     let _ = match answer {
         Ok(Accepted { settings, count }) => {
-            writeln!(stdout, "accepted settings {settings} records {count}")
+            writeln!(out, "accepted settings {settings} records {count}")
         }
-        Err(refusal) => writeln!(stdout, "{refusal}"),
+        Err(refusal) => writeln!(out, "{refusal}"),
     };
 }
