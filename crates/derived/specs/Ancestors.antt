@@ -43,6 +43,15 @@ code_of FieldOrAccessorValue = field_or_accessor_value
 code_of ConstructorMethod = constructor_method
 code_of (ClassBody extends) = cond extends class_body_with_heritage class_body
 
+-- What a byte stands for, and any other if it stands for none.
+abbrev pub decoded : ℕ → Ancestor
+decoded byte =
+    cond (eqb byte field_or_accessor_value) FieldOrAccessorValue
+    (cond (eqb byte constructor_method) ConstructorMethod
+    (cond (eqb byte class_body) (ClassBody false)
+    (cond (eqb byte class_body_with_heritage) (ClassBody true)
+    Other)))
+
 -- A byte that stands for no ancestor is over 4.
 abbrev pub Decodes : ℕ → Result Ancestor Refusal → Type 0
 Decodes byte r = MatchResult r (λ ancestor. code_of ancestor ≡ byte) (λ e. (e ≡ Refusal.Ancestor) × (4 < byte))

@@ -24,6 +24,9 @@ this_scope_is_constructor (scope ∷ outer) =
     cond (is_skipped scope) (this_scope_is_constructor outer)
     (is_constructor scope)
 
+abbrev pub decoded : ℕ → Scope
+decoded byte = record { is_block = is_block byte; is_arrow = is_arrow byte; is_constructor = is_constructor byte }
+
 -- A byte over 7 is no scope, and any other says by its bits what the scope is.
 abbrev pub Decodes : ℕ → Result Scope Refusal → Type 0
-Decodes byte r = r ≡ cond (ltb 7 byte) (Err Refusal.Scope) (Ok (record { is_block = is_block byte; is_arrow = is_arrow byte; is_constructor = is_constructor byte }))
+Decodes byte r = r ≡ cond (ltb 7 byte) (Err Refusal.Scope) (Ok (decoded byte))

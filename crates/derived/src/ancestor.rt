@@ -1,3 +1,6 @@
+ghost use Rattle.std.specs.Prelude.{◌≡◌};
+ghost use Rattle.derived.specs.Ancestors.{decoded};
+
 use refusal::Refusal;
 
 // An ancestor of a use of `this` in the syntax tree.
@@ -9,6 +12,26 @@ pub enum Ancestor {
     ClassBody { has_heritage: bool },
 }
 
+const LARGEST: u8 = 4;
+
+impl Ancestor {
+    // A byte that stands for none is read as any other.
+    #[inline]
+    pub fn decode(byte: u8) -> Ancestor
+        ensures { result ≡ decoded byte }
+    {
+        match byte {
+            1 => Ancestor::FieldOrAccessorValue,
+            2 => Ancestor::ConstructorMethod,
+            3 => Ancestor::ClassBody {
+                has_heritage: false,
+            },
+            4 => Ancestor::ClassBody { has_heritage: true },
+            _ => Ancestor::Other,
+        }
+    }
+}
+
 impl TryFrom<u8> for Ancestor {
     type Error = Refusal;
 
@@ -17,15 +40,9 @@ impl TryFrom<u8> for Ancestor {
     ghost try_from_gives = { Decodes };
 
     fn try_from(byte: u8) -> Result<Self, Refusal> {
-        match byte {
-            0 => Ok(Ancestor::Other),
-            1 => Ok(Ancestor::FieldOrAccessorValue),
-            2 => Ok(Ancestor::ConstructorMethod),
-            3 => Ok(Ancestor::ClassBody {
-                has_heritage: false,
-            }),
-            4 => Ok(Ancestor::ClassBody { has_heritage: true }),
-            _ => Err(Refusal::Ancestor),
+        if byte > LARGEST {
+            return Err(Refusal::Ancestor);
         }
+        Ok(Ancestor::decode(byte))
     }
 }

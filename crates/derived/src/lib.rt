@@ -16,46 +16,62 @@ use ancestor::Ancestor;
 use refusal::Refusal;
 use scope::Scope;
 
-// Both lists run innermost first. Each is read whole before any answer, also where the scopes alone decide.
+// Both lists run innermost first. Each is tested whole before any answer, also where the scopes alone decide.
 pub fn derived_constructor_this_scope(scopes: &[u8], ancestors: &[u8]) -> Result<bool, Refusal>
     ensures { stated result ≡ derived_question scopes.now ancestors.now }
 {
-    let is_constructor = this_scope_is_constructor(scopes)?;
-    let has_heritage = constructor_class_has_heritage(ancestors)?;
-    Ok(is_constructor && has_heritage)
+    test_scopes(scopes)?;
+    test_ancestors(ancestors)?;
+    Ok(this_scope_is_constructor(scopes) && constructor_class_has_heritage(ancestors))
 }
 
-// Whether the innermost scope with a `this` of its own is a constructor. Those behind it are only tested: the first answer stands.
-fn this_scope_is_constructor(scopes: &[u8]) -> Result<bool, Refusal>
-    ensures { result ≡ (if any_over 7 scopes.now then Err Refusal.Scope else Ok (this_scope_is_constructor scopes.now)) }
+fn test_scopes(scopes: &[u8]) -> Result<(), Refusal>
+    ensures { result ≡ (if any_over 7 scopes.now then Err Refusal.Scope else Ok tt) }
 {
-    let mut answer = None;
     for &byte in scopes {
-        let scope = Scope::try_from(byte)?;
+        Scope::try_from(byte)?;
+    }
+    Ok(())
+}
+
+fn test_ancestors(ancestors: &[u8]) -> Result<(), Refusal>
+    ensures { result ≡ (if any_over 4 ancestors.now then Err Refusal.Ancestor else Ok tt) }
+{
+    for &byte in ancestors {
+        Ancestor::try_from(byte)?;
+    }
+    Ok(())
+}
+
+// Whether the innermost scope with a `this` of its own is a constructor.
+fn this_scope_is_constructor(scopes: &[u8]) -> bool
+    ensures { result ≡ this_scope_is_constructor scopes.now }
+{
+    for &byte in scopes {
+        let scope = Scope::decode(byte);
         if !scope.is_skipped() {
-            answer = answer.or(Some(scope.is_constructor));
+            return scope.is_constructor;
         }
     }
-    Ok(answer.unwrap_or(false))
+    false
 }
 
 // Whether the class that contains the constructor extends another. The nearest class need not be that one:
-// computed keys and decorators of a nested class still use the outer `this`. Here too the first answer stands.
-fn constructor_class_has_heritage(ancestors: &[u8]) -> Result<bool, Refusal>
-    ensures { result ≡ (if any_over 4 ancestors.now then Err Refusal.Ancestor else Ok (constructor_class_has_heritage ancestors.now)) }
+// computed keys and decorators of a nested class still use the outer `this`.
+fn constructor_class_has_heritage(ancestors: &[u8]) -> bool
+    ensures { result ≡ constructor_class_has_heritage ancestors.now }
 {
     let mut found_constructor_method = false;
-    let mut answer = None;
     for &byte in ancestors {
-        match Ancestor::try_from(byte)? {
+        match Ancestor::decode(byte) {
             // A field or accessor value has its own `this`, though it makes no function scope.
-            Ancestor::FieldOrAccessorValue => answer = answer.or(Some(false)),
+            Ancestor::FieldOrAccessorValue => return false,
             Ancestor::ConstructorMethod => found_constructor_method = true,
             Ancestor::ClassBody { has_heritage } if found_constructor_method => {
-                answer = answer.or(Some(has_heritage));
+                return has_heritage;
             }
             Ancestor::ClassBody { .. } | Ancestor::Other => {}
         }
     }
-    Ok(answer.unwrap_or(false))
+    false
 }

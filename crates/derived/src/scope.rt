@@ -1,4 +1,5 @@
 ghost use Rattle.std.specs.Prelude.{◌≡◌, ◌||◌};
+ghost use Rattle.derived.specs.Scopes.{decoded};
 
 use refusal::Refusal;
 
@@ -19,11 +20,23 @@ pub struct Scope {
 }
 
 impl Scope {
-    // A block and an arrow have no `this` of their own.
+    // What the bits of a byte say, of which the others say nothing.
+    #[inline]
+    pub fn decode(byte: u8) -> Scope
+        ensures { result ≡ decoded byte }
+    {
+        Scope {
+            is_block: byte & BLOCK != 0,
+            is_arrow: byte & ARROW != 0,
+            is_constructor: byte & CONSTRUCTOR != 0,
+        }
+    }
+
+    // A block and an arrow have no `this` of their own. By `|`, both bits are one test in the walk.
     pub fn is_skipped(self) -> bool
         ensures { result ≡ (self.is_block || self.is_arrow) }
     {
-        self.is_block || self.is_arrow
+        self.is_block | self.is_arrow
     }
 }
 
@@ -38,10 +51,6 @@ impl TryFrom<u8> for Scope {
         if byte > LARGEST {
             return Err(Refusal::Scope);
         }
-        Ok(Scope {
-            is_block: byte & BLOCK != 0,
-            is_arrow: byte & ARROW != 0,
-            is_constructor: byte & CONSTRUCTOR != 0,
-        })
+        Ok(Scope::decode(byte))
     }
 }
