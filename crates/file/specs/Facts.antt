@@ -33,7 +33,7 @@ by_cond : (P : ℕ → Type 0) (b : Bool) (x y : ℕ) → P x → P y → P (con
 by_cond P true x y p q = p
 by_cond P false x y p q = q
 
-within_leb : (k f : ℕ) → f < 256 → bits_within (allowed_facts k) f ≡ leb f (allowed_facts k)
+pub within_leb : (k f : ℕ) → f < 256 → bits_within (allowed_facts k) f ≡ leb f (allowed_facts k)
 unfolding allowed_facts bits_within all_below
 within_leb k =
     by_cond Law (eqb k kind.elision || (eqb k kind.property || eqb k kind.element)) 0 (cond (eqb k kind.spread) 1 (cond (eqb k kind.call) 255 (cond (eqb k kind.new) 127 31))) (within_at 0 refl)

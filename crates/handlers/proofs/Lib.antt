@@ -1,0 +1,2 @@
+-- Theorems that no proof cites.
+pub mod ByKind
