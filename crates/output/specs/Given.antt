@@ -1,12 +1,11 @@
 -- Trees that are to be written.
-use Rattle.std.specs.Prelude.{◌≡◌, List, ◌∷◌, Some, ℕ, ◌+◌, ◌-◌, ◌≤◌}
+use Rattle.std.specs.Prelude.{◌≡◌, List, [], ◌∷◌, ℕ, ◌+◌, ◌-◌, ◌≤◌}
 use Rattle.std.proofs.Common.{ap, sym, arith, ◌∙◌}
 use Rattle.tree.specs.Tree.{Tree, forest, records, size, forest_trees}
 use Rattle.tree.specs.Layout.{version_in}
 use Rattle.tree.specs.Room.{records_in}
 use Rattle.readings.specs.At.{forest_at}
 use Rattle.readings.specs.View.{left, tree}
-use Rattle.readings.specs.Yields.{YieldsTree}
 use Rattle.readings.specs.declared.node.Node.{Node}
 use Rattle.readings.specs.declared.node.Trees.{Trees}
 use Rattle.output.specs.Trees.{Wrote}
@@ -25,8 +24,15 @@ pub record GivenTrees (w : Trees) (out : List ℕ) (pos : ℕ) : Type 0 where
 pub trees_size : (w : Trees) → records (forest (left w)) ≡ w.end - w.at
 trees_size w = ap records (forest_trees (forest_at w.src.now w.at (w.end - w.at))) ∙ w.held.1
 
+-- A tree as a list of one.
+pub alone_given : {n : Node} {w : Trees} {out : List ℕ} {pos : ℕ} → left w ≡ tree n ∷ [] → w.src.now ≡ n.record.src.now → GivenTree n out pos → GivenTrees w out pos
+alone_given {w = w} e s g = record {
+  same = g.same ∙ ap version_in (sym s);
+  fits = omega (arith, g.fits, trees_size w, ap (λ (l : List Tree). records (forest l)) e);
+}
+
 -- One step of a walk that writes: the next tree, and the trees behind it.
-module _ (s t : Trees) (n : Node) (y : YieldsTree s (Some n) t) where
+module _ (s t : Trees) (n : Node) (y : (left s ≡ tree n ∷ left t) × (t.src.now ≡ s.src.now) × (n.record.src.now ≡ s.src.now)) where
   pub step_size : s.end - s.at ≡ size (tree n) + (t.end - t.at)
   step_size = omega (arith, trees_size s, trees_size t, ap (λ (l : List Tree). records (forest l)) y.0)
 

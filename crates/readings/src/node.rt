@@ -58,11 +58,11 @@ impl<'a> Node<'a> {
 impl<'a> Iterator for Trees<'a> {
     ghost use Rattle.std.specs.Iterator.{item_count};
     ghost use Rattle.readings.specs.View.{left};
-    ghost use Rattle.readings.specs.Yields.{YieldsTree};
+    ghost use Rattle.readings.specs.Yields.{StepsTree};
 
     type Item = Node<'a>;
 
-    ghost next_gives = { YieldsTree };
+    ghost next_gives = { StepsTree };
 
     ghost remaining = { item_count left };
 

@@ -1,5 +1,5 @@
 -- One child: it waits, is wrapped, or is reduced and settled.
-use Rattle.std.specs.Prelude.{◌≡◌, refl, Bool, true, false, cond, List, [], ◌∷◌, ◌++◌, ℕ, ◌*◌, ◌<◌, ◌≤◌}
+use Rattle.std.specs.Prelude.{◌≡◌, refl, Bool, true, false, cond, List, [], ◌∷◌, ◌++◌, ℕ, ◌+◌, ◌*◌, ◌<◌, ◌≤◌}
 use Rattle.std.proofs.Common.{sym, ap, subst, ◌∙◌, arith}
 use Rattle.tree.specs.Tree.{Tree, forest, records, size}
 use Rattle.fields.specs.Record.{node}
@@ -14,6 +14,7 @@ use Rattle.readings.specs.At.{tree_at}
 use Rattle.readings.specs.Given.{given}
 use Rattle.readings.specs.View.{tree}
 use Rattle.readings.specs.declared.node.Node.{Node}
+use Rattle.output.specs.Given as whole
 use Rattle.output.specs.Records.{Before, before_less, before_trans}
 use Rattle.output.specs.Trees.{Wrote, wrote_none, wrote_as}
 use Rattle.rewrite.specs.declared.waiting.Waiting.{Waiting}
@@ -49,6 +50,9 @@ left_few part st t = go (wraps part t) refl
 module _ {u : Node} {depth : ℕ} {old : List ℕ} {at : Waiting} (g : GivenChild u depth old at) where
   pub child_tree : GivenTree u depth old at.next
   child_tree = record { listable = g.listable; same = g.same; fits = omega (arith, g.fits); small = omega (arith, g.small, waits_after g.waits) }
+
+  pub child_copy : whole.GivenTree u old (at.next + 1)
+  child_copy = record { same = g.same; fits = omega (arith, g.fits) }
 
   pub child_small : size (tree u) < 65535
   child_small = omega (arith, g.small, waits_after g.waits)
@@ -89,6 +93,14 @@ module _ (part : Part) (t : Tree) {b : Bool} (p : b ≡ waits part t) where
     stays = stays_both a.stays k;
   }
 
+-- A spread among arguments was wrapped; any other child was reduced.
+module _ (part : Part) (t : Tree) {c : Bool} (q : c ≡ wraps part t) {old mid : Reduction} {next end : ℕ} where
+  pub child_wrapped : c ≡ true → Stays old mid → Wrapped t old.out.now mid.out.now next end → Reduced old mid next end (left_of part (given old.settings) t)
+  child_wrapped e k m = record { wrote = wrote_as m.wrote (sym (left_wrapped (given old.settings) part t (sym q ∙ e))); stays = k }
+
+  pub child_reduced : c ≡ false → Reduced old mid next end (reduce (given old.settings) t) → Reduced old mid next end (left_of part (given old.settings) t)
+  child_reduced e m = record { wrote = wrote_as m.wrote (sym (left_reduced (given old.settings) part t (sym q ∙ e))); stays = m.stays }
+
 -- Whether it is wrapped its record alone says.
 pub own_wraps : (part : Part) (u : Node) → wraps part (node u.record) ≡ wraps part (tree u)
 unfolding is_kind tree_at
@@ -97,10 +109,10 @@ own_wraps Argument u = refl
 own_wraps Template u = refl
 own_wraps Object u = refl
 
--- A spread among arguments was wrapped; any other child was reduced.
+-- The same of a node, by its record.
 module _ (part : Part) (u : Node) {c : Bool} (q : c ≡ wraps part (node u.record)) {old mid : Reduction} {next end : ℕ} where
-  pub child_wrapped : c ≡ true → Stays old mid → Wrapped (tree u) old.out.now mid.out.now next end → Reduced old mid next end (left_of part (given old.settings) (tree u))
-  child_wrapped e k m = record { wrote = wrote_as m.wrote (sym (left_wrapped (given old.settings) part (tree u) (sym (own_wraps part u) ∙ sym q ∙ e))); stays = k }
+  pub node_wrapped : c ≡ true → Stays old mid → Wrapped (tree u) old.out.now mid.out.now next end → Reduced old mid next end (left_of part (given old.settings) (tree u))
+  node_wrapped = child_wrapped part (tree u) (q ∙ own_wraps part u)
 
-  pub child_reduced : c ≡ false → Reduced old mid next end (reduce (given old.settings) (tree u)) → Reduced old mid next end (left_of part (given old.settings) (tree u))
-  child_reduced e m = record { wrote = wrote_as m.wrote (sym (left_reduced (given old.settings) part (tree u) (sym (own_wraps part u) ∙ sym q ∙ e))); stays = m.stays }
+  pub node_reduced : c ≡ false → Reduced old mid next end (reduce (given old.settings) (tree u)) → Reduced old mid next end (left_of part (given old.settings) (tree u))
+  node_reduced = child_reduced part (tree u) (q ∙ own_wraps part u)

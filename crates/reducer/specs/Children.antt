@@ -1,12 +1,11 @@
 -- The walk over a list of children.
-use Rattle.std.specs.Prelude.{◌≡◌, List, [], ◌∷◌, Some, ℕ, ◌+◌, ◌*◌, ◌-◌, ◌<◌, ◌≤◌}
+use Rattle.std.specs.Prelude.{◌≡◌, List, [], ◌∷◌, ℕ, ◌+◌, ◌*◌, ◌-◌, ◌<◌, ◌≤◌}
 use Rattle.std.proofs.Common.{ap, sym, subst, ◌∙◌, arith}
 use Rattle.tree.specs.Tree.{Tree, All}
 use Rattle.tree.specs.Layout.{version_in}
 use Rattle.tree.specs.Room.{records_in}
 use Rattle.readings.specs.Given.{given}
 use Rattle.readings.specs.View.{left, tree}
-use Rattle.readings.specs.Yields.{YieldsTree}
 use Rattle.readings.specs.declared.node.Node.{Node}
 use Rattle.readings.specs.declared.node.Trees.{Trees}
 use Rattle.effects.specs.Listing.{Listable}
@@ -50,7 +49,7 @@ module _ (w : Trees) {depth : ℕ} (part : Part) {old : Reduction} {pos : ℕ} (
   walk_done e = k.whole cur at (record { by = λ v x. rw e (record { done = wrote_none (before_all cur.out.now at.slot); waiting = x }); few = omega arith; stays = stays_all cur })
 
   -- The next tree, and the trees behind it.
-  module _ (t : Trees) (n : Node) (y : YieldsTree s (Some n) t) where
+  module _ (t : Trees) (n : Node) (y : (left s ≡ tree n ∷ left t) × (t.src.now ≡ s.src.now) × (n.record.src.now ≡ s.src.now)) where
     both : All (Listable depth) (tree n ∷ left t)
     both = subst (λ (l : List Tree). All (Listable depth) l) y.0 k.listable
 

@@ -77,14 +77,14 @@ pub record Flushed (make : Place → List Tree → Tree) (old new : List ℕ) (a
   pub above : Behind old new at.next
 
 module _ {t : Tree} {old new : List ℕ} {at : Waiting} {r : ℕ} where
-  first_held : at.slot ≡ at.next → Wrote old new (at.next + 1) r (t ∷ []) → Held t old new at (record { slot = at.slot; next = r })
+  pub first_held : at.slot ≡ at.next → Wrote old new (at.next + 1) r (t ∷ []) → Held t old new at (record { slot = at.slot; next = r })
   first_held e c = record { by = go; frame = before_less at.next (omega arith) c.frame; slot = refl; few = omega (arith, c.spans.ends) }
     where
       go : (w : List Tree) → Waits old at w → Waits new (record { slot = at.slot; next = r }) (w ++ (t ∷ []))
       go [] x = spans_waits [] t (rw e c.spans)
       go (y ∷ w) x = absurd (omega (arith, x.ends))
 
-  more_held : (at.slot ≡ at.next → ⊥) → Wrote old new at.next r (t ∷ []) → Held t old new at (record { slot = at.slot; next = r })
+  pub more_held : (at.slot ≡ at.next → ⊥) → Wrote old new at.next r (t ∷ []) → Held t old new at (record { slot = at.slot; next = r })
   more_held n c = record { by = go; frame = c.frame; slot = refl; few = omega (arith, c.spans.ends) }
     where
       go : (w : List Tree) → Waits old at w → Waits new (record { slot = at.slot; next = r }) (w ++ (t ∷ []))
@@ -120,20 +120,23 @@ pub record WrappedRecords (t : Tree) (n : ℕ) (old new : List ℕ) (pos r : ℕ
   pub by : n ≡ size t → Wrapped t old new pos r
   pub few : r ≤ pos + 1 + n
 
+module _ (t : Tree) {b : Bool} (f : b ≡ flagged t) {old : List ℕ} {pos : ℕ} where
+  pub gone_wrapped : b ≡ false → Wrapped t old old pos pos
+  gone_wrapped x = record { wrote = rw (sym f ∙ x) (wrote_none (before_all old pos)) }
+
+  pub kept_wrapped : b ≡ true → {mid new : List ℕ} {r z : ℕ} {place : Place} → Wrote old mid (pos + 1) r (t ∷ []) → place ≡ t.head.place → z ≡ size t + 1
+      → Recorded mid new pos (made_head kind.array 0 1 place) 1 z → Wrapped t old new pos r
+  unfolding make_array flag_of
+  kept_wrapped x a p ez w = record {
+    wrote =
+        wrote_as (recorded_node (t ∷ []) (before_less pos (omega arith) a.frame) a.spans w refl (omega arith))
+        (rw (sym f ∙ x, p));
+  }
+
 module _ (t : Tree) {b : Bool} (f : b ≡ flagged t) {n : ℕ} {old : List ℕ} {pos : ℕ} where
   pub wrapped_gone : b ≡ false → WrappedRecords t n old old pos pos
-  wrapped_gone x = record { by = λ y. record { wrote = rw (sym f ∙ x) (wrote_none (before_all old pos)) }; few = omega arith }
+  wrapped_gone x = record { by = λ y. gone_wrapped t f x; few = omega arith }
 
   pub wrapped_kept : b ≡ true → {s mid new : List ℕ} {p r z : ℕ} {place : Place} → Stands s p (one t) → CopiedTree s p n old mid (pos + 1) r → place ≡ t.head.place → z ≡ n + 1
       → Recorded mid new pos (made_head kind.array 0 1 place) 1 z → WrappedRecords t n old new pos r
-  unfolding make_array flag_of
-  wrapped_kept x d c ep ez w = record {
-    by = λ y.
-        let a = c.by t d y in
-        record {
-          wrote =
-              wrote_as (recorded_node (t ∷ []) (before_less pos (omega arith) a.frame) a.spans w refl (omega arith))
-              (rw (sym f ∙ x, ep));
-        };
-    few = omega (arith, c.ends);
-  }
+  wrapped_kept x d c ep ez w = record { by = λ y. kept_wrapped t f x (c.by t d y) ep (omega (arith, ez, y)) w; few = omega (arith, c.ends) }

@@ -9,16 +9,18 @@ use Rattle.classes.specs.Class.{extracted_small}
 use Rattle.classes.proofs.extract_elements.Goals as goal
 
 pub extract_element-next-requires : goal.extract_element-next-requires
-extract_element-next-requires c = first_tree c.loop-element.element-iterator c.next.new.self c.in-Some.element c.in-Some.ensures.steps c.loop-element.invariant.given
+extract_element-next-requires c =
+    let y = c.in-Some.ensures.steps in
+    first_tree c.loop-element.element-iterator c.next.new.self c.in-Some.element (y.0, y.1, y.2) c.loop-element.invariant.given
 
 pub loop-element-preserved : goal.loop-element-preserved
-loop-element-preserved c = record {
+loop-element-preserved c = let y = c.in-Some.ensures.steps in record {
   can = tt;
   finite = tt;
-  given = other_trees c.loop-element.element-iterator c.next.new.self c.in-Some.element c.in-Some.ensures.steps c.loop-element.invariant.given c.extract_element-next.ensures (extracted_small (tree c.in-Some.element));
+  given = other_trees c.loop-element.element-iterator c.next.new.self c.in-Some.element (y.0, y.1, y.2) c.loop-element.invariant.given c.extract_element-next.ensures (extracted_small (tree c.in-Some.element));
   whole = λ new end w.
       c.loop-element.invariant.whole new end
-      (wrote_as (wrote_both _ _ c.extract_element-next.ensures w) (sym (ap (concat_map extracted_of_element) c.in-Some.ensures.steps.0)));
+      (wrote_as (wrote_both _ _ c.extract_element-next.ensures w) (sym (ap (concat_map extracted_of_element) y.0)));
 }
 
 pub returns : goal.returns

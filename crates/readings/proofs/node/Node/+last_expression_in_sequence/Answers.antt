@@ -4,7 +4,7 @@ use Rattle.std.specs.List.{last_or}
 use Rattle.std.proofs.Common.{sym, ap, subst, ◌∙◌, arith}
 use Rattle.std.proofs.lemmas.Iterator.{YieldsList, items_from_drains}
 use Rattle.tree.specs.Tree.{size}
-use Rattle.readings.specs.Yields.{YieldsTree, yields}
+use Rattle.readings.specs.Yields.{StepsTree, steps_yield}
 use Rattle.rules.specs.Handler.{is_sequence}
 use Rattle.readings.specs.Sequence.{last_found, last_missing, last_empty, last_or_itself, last_own, last_sequence}
 use Rattle.readings.specs.View.{tree}
@@ -29,14 +29,14 @@ abbrev EndsAt : List ℕ → ℕ → Node → Type 0
 EndsAt s e n = (n.record.src.now ≡ s) × (n.record.at + size (tree n) ≡ e)
 
 -- The last that a walk gave ends where the walk then stands.
-last_ends : (xs : List Node) (o : Option Node) (w t : Trees) (s : List ℕ) (e : ℕ) → w.src.now ≡ s → w.end ≡ e → IfSome o (EndsAt s w.at) → Yields YieldsTree w xs t
+last_ends : (xs : List Node) (o : Option Node) (w t : Trees) (s : List ℕ) (e : ℕ) → w.src.now ≡ s → w.end ≡ e → IfSome o (EndsAt s w.at) → Yields StepsTree w xs t
     → IfSome (last_or o xs) (EndsAt s t.at) × (t.end ≡ e)
 last_ends [] o w t s e es ee h y = (subst (λ (u : Trees). IfSome o (EndsAt s u.at)) y h, ap (λ (u : Trees). u.end) (sym y) ∙ ee)
 last_ends (x ∷ xs) o w t s e es ee h y =
     let p = y.1.3 in
     last_ends xs (Some x) y.0 t s e (y.1.1 ∙ es) (p.0 ∙ ee) (y.1.2 ∙ es, omega (arith, p.1.0, p.1.1)) y.2
 
-last_at_end : (w : Trees) (s : List ℕ) (e : ℕ) (n : Node) → w.src.now ≡ s → w.end ≡ e → (xs : List Node) × Drains YieldsTree w xs × (Some n ≡ last_or None xs) → EndsAt s e n
+last_at_end : (w : Trees) (s : List ℕ) (e : ℕ) (n : Node) → w.src.now ≡ s → w.end ≡ e → (xs : List Node) × Drains StepsTree w xs × (Some n ≡ last_or None xs) → EndsAt s e n
 last_at_end w s e n es ee h =
     let l = last_ends h.0 None w h.1.1.0 s e es ee tt h.1.1.1 in
     let x : EndsAt s h.1.1.0.at n = subst (λ (o : Option Node). IfSome o (EndsAt s h.1.1.0.at)) (sym h.2) l.0 in
@@ -47,12 +47,12 @@ returns-then-not-is_kind-clause-last t c = sym (last_own (tree c.args.self) (sym
 
 pub last_expression_in_sequence-requires : goal.last_expression_in_sequence-requires
 last_expression_in_sequence-requires t c =
-    let found = last_found (tree c.args.self) (tree c.in-Some.last) (last_from_yields_List _ c.in-Some.ensures.ran (yields _ c.children.ensures.trees)) in
+    let found = last_found (tree c.args.self) (tree c.in-Some.last) (last_from_yields_List _ c.in-Some.ensures.ran (steps_yield _ c.children.ensures.trees)) in
     (omega (arith, found.1, c.decreases), tt)
 
 pub returns-in-Some-clause-last : goal.returns-in-Some-clause-last
 returns-in-Some-clause-last t c =
-    let found = last_found (tree c.args.self) (tree c.in-Some.last) (last_from_yields_List _ c.in-Some.ensures.ran (yields _ c.children.ensures.trees)) in
+    let found = last_found (tree c.args.self) (tree c.in-Some.last) (last_from_yields_List _ c.in-Some.ensures.ran (steps_yield _ c.children.ensures.trees)) in
     let sequence : is_sequence (tree c.args.self) ≡ true = sym c.is_kind.ensures ∙ c.if-not-is_kind.false in
     c.last_expression_in_sequence.ensures.last ∙ sym (last_sequence (tree c.args.self) sequence ∙ ap last_or_itself found.0)
 
@@ -66,5 +66,5 @@ returns-in-Some-clause-ends t c =
 
 pub returns-in-None-clause-last : goal.returns-in-None-clause-last
 returns-in-None-clause-last t c =
-    let missing = last_missing (tree c.args.self) (last_from_yields_List _ c.in-None.ensures.ran (yields _ c.children.ensures.trees)) in
+    let missing = last_missing (tree c.args.self) (last_from_yields_List _ c.in-None.ensures.ran (steps_yield _ c.children.ensures.trees)) in
     sym (last_empty (tree c.args.self) missing)

@@ -1,9 +1,9 @@
 use Rattle.std.proofs.Common.{rules}
 use Rattle.std.proofs.lemmas.Iterator.Search.{all_from_yields_List}
-use Rattle.readings.specs.Yields.{yields}
+use Rattle.readings.specs.Yields.{steps_yield}
 use borrow.Author.Tests.{tests}
 use Rattle.rules.specs.Facts.{possible_symbol}
 use Rattle.readings.proofs.node.Node.only_possible_symbols.Goals as goal
 
 pub returns : goal.returns
-returns c = all_from_yields_List possible_symbol c.all.new.self _ _ c.all.ensures.ran (yields _ c.children.ensures.trees) (λ x b q k. search (rules, tests))
+returns c = all_from_yields_List possible_symbol c.all.new.self _ _ c.all.ensures.ran (steps_yield _ c.children.ensures.trees) (λ x b q k. search (rules, tests))

@@ -12,7 +12,7 @@ use Rattle.handlers.specs.declared.outcome.Rewrite.TheVariants as rewrites
 use Rattle.output.specs.Given.{step_size, trees_size}
 use Rattle.output.specs.Trees.{copied_trees}
 use Rattle.rewrite.specs.Waiting.{waits_after}
-use Rattle.reducer.specs.Child.{child_held, child_reduced, child_settled, child_wrapped, given_settle}
+use Rattle.reducer.specs.Child.{child_held, child_settled, given_settle, node_reduced, node_wrapped}
 use Rattle.reducer.specs.Children.{next_given, walk_done, walk_on}
 use Rattle.reducer.specs.Conditional.{Arms, arms_given, arms_size, both_gone, conditional_done, first_given, second_given, test_given, test_room}
 use Rattle.reducer.specs.Expression.{arguments_wrote, as_made, as_outcome, becomes_left, in_order_wrote, inner_given, kids_few, list_given, object_done, others_few, outcome_done, outer_given, removable_done, template_done, walked_as, walked_given}
@@ -30,8 +30,8 @@ pub reduce_child-settle-requires : goal.reduce_child-settle-requires
 reduce_child-settle-requires t c =
     let left : Reduced c.args.self.now c.if-wraps.self c.args.waiting.next c.if-wraps.end (left_of c.args.part (given c.args.self.now.settings) (tree c.args.node)) =
     elim c.if-wraps.branch [
-      | reduce_child-then-wraps w ↦ rw (w.self-is, w.end-is) (child_wrapped c.args.part c.args.node c.wraps.ensures w.if-wraps.true (stays_written _ w.wrap_spread-end.auto.out) (w.wrap_spread-end.ensures.by w.size-then-wraps.ensures.records))
-      | reduce_child-else-wraps w ↦ rw (w.self-is, w.end-is) (child_reduced c.args.part c.args.node c.wraps.ensures w.if-wraps.false w.remove_unused_expression-end.ensures)
+      | reduce_child-then-wraps w ↦ rw (w.self-is, w.end-is) (node_wrapped c.args.part c.args.node c.wraps.ensures w.if-wraps.true (stays_written _ w.wrap_spread-end.auto.out) (w.wrap_spread-end.ensures.by w.size-then-wraps.ensures.records))
+      | reduce_child-else-wraps w ↦ rw (w.self-is, w.end-is) (node_reduced c.args.part c.args.node c.wraps.ensures w.if-wraps.false w.remove_unused_expression-end.ensures)
     ] in
     given_settle c.requires c.args.part (given c.args.self.now.settings) left.wrote
 
@@ -40,8 +40,8 @@ unfolding tree_at
 reduce_child-returns t c =
     let left : Reduced c.args.self.now c.if-wraps.self c.args.waiting.next c.if-wraps.end (left_of c.args.part (given c.args.self.now.settings) (tree c.args.node)) =
     elim c.if-wraps.branch [
-      | reduce_child-then-wraps w ↦ rw (w.self-is, w.end-is) (child_wrapped c.args.part c.args.node c.wraps.ensures w.if-wraps.true (stays_written _ w.wrap_spread-end.auto.out) (w.wrap_spread-end.ensures.by w.size-then-wraps.ensures.records))
-      | reduce_child-else-wraps w ↦ rw (w.self-is, w.end-is) (child_reduced c.args.part c.args.node c.wraps.ensures w.if-wraps.false w.remove_unused_expression-end.ensures)
+      | reduce_child-then-wraps w ↦ rw (w.self-is, w.end-is) (node_wrapped c.args.part c.args.node c.wraps.ensures w.if-wraps.true (stays_written _ w.wrap_spread-end.auto.out) (w.wrap_spread-end.ensures.by w.size-then-wraps.ensures.records))
+      | reduce_child-else-wraps w ↦ rw (w.self-is, w.end-is) (node_reduced c.args.part c.args.node c.wraps.ensures w.if-wraps.false w.remove_unused_expression-end.ensures)
     ] in
     child_settled c.args.part (tree c.args.node) c.waits.ensures c.if-waits.false left (stays_written _ c.settle.auto.out) c.settle.ensures
 
@@ -51,14 +51,15 @@ pub reduce_children-reduce_child-waiting-requires : goal.reduce_children-reduce_
 reduce_children-reduce_child-waiting-requires t c =
     let k = c.loop-node.invariant in
     let y = c.in-Some.ensures.steps in (
-      omega (arith, c.decreases, step_size c.loop-node.node-iterator c.next.new.self c.in-Some.node y, k.few, k.behind, waits_after k.waits),
-      next_given c.args.list c.args.part c.loop-node.node-iterator k c.next.new.self c.in-Some.node y,
+      omega (arith, c.decreases, step_size c.loop-node.node-iterator c.next.new.self c.in-Some.node (y.0, y.1, y.2), k.few, k.behind, waits_after k.waits),
+      next_given c.args.list c.args.part c.loop-node.node-iterator k c.next.new.self c.in-Some.node (y.0, y.1, y.2),
     )
 
 pub reduce_children-loop-node-preserved : goal.reduce_children-loop-node-preserved
 reduce_children-loop-node-preserved t c =
     let k = c.loop-node.invariant in
-    walk_on c.args.list c.args.part c.loop-node.node-iterator k c.next.new.self c.in-Some.node c.in-Some.ensures.steps c.reduce_child-waiting.ensures
+    let y = c.in-Some.ensures.steps in
+    walk_on c.args.list c.args.part c.loop-node.node-iterator k c.next.new.self c.in-Some.node (y.0, y.1, y.2) c.reduce_child-waiting.ensures
 
 pub reduce_children-returns : goal.reduce_children-returns
 reduce_children-returns t c =
